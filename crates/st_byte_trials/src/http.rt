@@ -1,8 +1,8 @@
 //! HTTP over streams of which each call fails in turn, under refused memory, and with invalid responses.
 
 use refusing::Refusing;
+use st_devices::{Counting, FailAt};
 use st_http::{Answerer, HttpError, exchange, serve_one};
-use st_oer::{Counting, FailAt};
 use std::alloc::{Allocator, Global};
 use std::io;
 use std::io::{ErrorKind, Read, Write};

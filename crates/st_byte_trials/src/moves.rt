@@ -2,8 +2,8 @@
 
 use crate::devices::{Heap, Script, Step, Wire};
 use refusing::Refusing;
+use st_devices::{Counting, FailAt};
 use st_file::{FileError, send_all, store_all};
-use st_oer::{Counting, FailAt};
 use std::alloc::Global;
 use std::process::Abort;
 

@@ -2,8 +2,8 @@
 
 ghost use Rattle.std.specs.Prelude.{◌≡◌, ◌<◌, ◌≤◌};
 
+use st_devices::{CountRead, CountWrite};
 use st_local::run_local;
-use st_oer::{CountRead, CountWrite};
 use st_settings::LocalSettings;
 use std::alloc::{Allocator, Global};
 

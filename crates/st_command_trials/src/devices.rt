@@ -2,7 +2,8 @@
 //! and what it had flushed when a call failed.
 
 use st_commands::{Fault, Lines, answer_frames, run_frames};
-use st_oer::{CountRead, CountWrite, utf8};
+use st_devices::{CountRead, CountWrite};
+use st_oer::utf8;
 use std::alloc::{Allocator, Global};
 use std::io;
 use std::io::{ErrorKind, Read, Write};

@@ -1,9 +1,9 @@
 -- Calls that were counted one after another, and whose fault a call ended with.
 use Rattle.std.proofs.Common.{◌≡◌, ℕ, ◌+◌, ◌-◌, ◌<◌, refl, ap, arith}
 use Rattle.std.specs.Prelude.{◌≢◌, Option, Some, None, unwrap_or}
-use Rattle.st_oer.specs.Faults.{count_after}
-use Rattle.st_oer.specs.Tallies.{TakesTurns}
-use Rattle.st_oer.specs.declared.tally.Tally.{Tally}
+use Rattle.st_devices.specs.Faults.{count_after}
+use Rattle.st_devices.specs.Tallies.{TakesTurns}
+use Rattle.st_devices.specs.declared.tally.Tally.{Tally}
 use Rattle.st_commands.specs.declared.error.Fault.{Fault}
 use Rattle.st_commands.specs.declared.error.Fault.TheVariants as fault
 use Rattle.st_commands.specs.Endings.{HasEnded, SpendsTurns, StaysFlushed, most_turns, reader_faults, writer_faults}

@@ -1,10 +1,10 @@
 -- How a run ended, and what was written by then.
 use Rattle.std.specs.Prelude.{◌≡◌, ◌⊎◌, ℕ, ◌+◌, ◌-◌, ◌^◌, ◌≤◌, Bool, true, false, List, take, Option, Some, None, Result, Ok, Err, IfSome}
 use Rattle.std.specs.Io.KnownBytes.{Appends}
-use Rattle.st_oer.specs.Faults.{count_after}
-use Rattle.st_oer.specs.Tallies.{device_of, tally_of}
-use Rattle.st_oer.specs.declared.counted.Counting.{Counting}
-use Rattle.st_oer.specs.declared.tally.Tally.{Tally}
+use Rattle.st_devices.specs.Faults.{count_after}
+use Rattle.st_devices.specs.Tallies.{device_of, tally_of}
+use Rattle.st_devices.specs.declared.counted.Counting.{Counting}
+use Rattle.st_devices.specs.declared.tally.Tally.{Tally}
 use Rattle.st_commands.specs.declared.error.Fault.{Fault}
 use Rattle.st_commands.specs.declared.error.Fault.TheVariants as fault
 use Rattle.st_commands.specs.declared.frames.Lines.{Lines}

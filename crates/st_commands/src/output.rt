@@ -2,11 +2,11 @@
 
 ghost use Rattle.std.specs.Prelude.{◌≡◌, ◌≢◌, Err, IfErr, OnOk, true};
 ghost use Rattle.std.specs.Io.KnownBytes.{Appends, Keeps};
-ghost use Rattle.st_oer.specs.Tallies.{TakesTurns, device_of, tally_of};
+ghost use Rattle.st_devices.specs.Tallies.{TakesTurns, device_of, tally_of};
 ghost use Rattle.st_commands.specs.Endings.{StaysFlushed, WritesPart, fault_of, writer_faults};
 
 use crate::error::Fault;
-use st_oer::{CountWrite, FlushTurn, PutError, flush_turn, put_all};
+use st_devices::{CountWrite, FlushTurn, PutError, flush_turn, put_all};
 use std::io::Write;
 
 /// Flushes the writer. Each call takes one of `turns`.

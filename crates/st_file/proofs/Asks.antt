@@ -1,7 +1,7 @@
 -- Calls counted one after the other, and calls of two parties counted down from one number.
 use Rattle.std.proofs.Common.{◌≡◌, ℕ, ◌+◌, ◌-◌, arith, refl, ap, ◌∙◌, Option, Some, None}
-use Rattle.st_oer.specs.Tallies.{TakesTurns}
-use Rattle.st_oer.specs.declared.tally.Tally.{Tally}
+use Rattle.st_devices.specs.Tallies.{TakesTurns}
+use Rattle.st_devices.specs.declared.tally.Tally.{Tally}
 use Rattle.st_file.specs.Sinks.{calls_after}
 use Rattle.st_file.specs.Spending.{Spends, TakesAsks}
 

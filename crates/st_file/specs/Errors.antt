@@ -1,6 +1,6 @@
 -- The numbers by which programs print refusals, and the number that a refusal carries.
 use Rattle.std.specs.Prelude.{ℕ, min, Option, Some, Result, Ok, Err, ⊤}
-use Rattle.st_oer.specs.Faults.{count_after, last_count}
+use Rattle.st_devices.specs.Faults.{count_after, last_count}
 use Rattle.st_file.specs.declared.error.FileError.{FileError}
 use Rattle.st_file.specs.declared.error.FileError.TheVariants.{ReadFault, WriteFault, Aborted, Turns, NoMemory, Closed}
 

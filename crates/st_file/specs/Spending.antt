@@ -1,7 +1,7 @@
 -- Calls of a device and of a sink or a source, counted down from one number.
 use Rattle.std.specs.Prelude.{◌≡◌, ℕ, ◌+◌, ◌-◌, ◌≤◌, Option, Result, IfErr}
-use Rattle.st_oer.specs.Faults.{count_after}
-use Rattle.st_oer.specs.declared.tally.Tally.{Tally}
+use Rattle.st_devices.specs.Faults.{count_after}
+use Rattle.st_devices.specs.declared.tally.Tally.{Tally}
 use Rattle.st_file.specs.Sinks.{calls_after}
 use Rattle.st_file.specs.Errors.{IsTurns}
 use Rattle.st_file.specs.declared.error.FileError.{FileError}

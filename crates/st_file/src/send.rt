@@ -4,11 +4,11 @@ ghost use Rattle.std.specs.Prelude.{◌≡◌, ◌<◌, OnOk, IfOk, IfErr, IsOk}
 ghost use Rattle.st_file.specs.Errors.{IsTurns, faults_told};
 ghost use Rattle.st_file.specs.Sends.{ExplainsSend, PutsEnd, PutsPiece, ReadsPiece, SentAll};
 ghost use Rattle.st_file.specs.Spending.{SpendsTurns, TakesAsks};
-ghost use Rattle.st_oer.specs.Tallies.{TakesTurns, device_of, tally_of};
+ghost use Rattle.st_devices.specs.Tallies.{TakesTurns, device_of, tally_of};
 
 use crate::error::FileError;
 use crate::sink::{Put, Sink};
-use st_oer::{Counting, ReadTurn, read_turn};
+use st_devices::{Counting, ReadTurn, read_turn};
 use std::alloc::Allocator;
 use std::io::Read;
 

@@ -5,11 +5,11 @@ ghost use Rattle.std.specs.Io.KnownBytes.{Keeps};
 ghost use Rattle.st_file.specs.Errors.{IsTurns, faults_told};
 ghost use Rattle.st_file.specs.Spending.{SpendsTurns, TakesAsks};
 ghost use Rattle.st_file.specs.Stores.{ExplainsStore, Flushes, GivesNext, StoredAll, WritesPiece};
-ghost use Rattle.st_oer.specs.Tallies.{TakesTurns, device_of, tally_of};
+ghost use Rattle.st_devices.specs.Tallies.{TakesTurns, device_of, tally_of};
 
 use crate::error::FileError;
 use crate::source::Source;
-use st_oer::{Counting, FlushTurn, PutError, flush_turn, put_all};
+use st_devices::{Counting, FlushTurn, PutError, flush_turn, put_all};
 use st_queues::Got;
 use std::alloc::Allocator;
 use std::io::Write;

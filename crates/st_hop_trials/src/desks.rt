@@ -5,9 +5,9 @@ use st_booking::{Booking, Proof};
 use st_desk::{
     AccountShares, Books, Clock, Fate, HopDesk, Link, LinkFault, NoBooks, Owed, Served, serve,
 };
+use st_devices::Counted;
 use st_hop::{Account, HopError, HopState, Route};
 use st_ilp::Moment;
-use st_oer::Counted;
 use std::alloc::{Allocator, Global};
 use std::marker::Brand;
 use std::process::Abort;

@@ -1,7 +1,7 @@
 -- Calls of a stream, counted one after the other.
 use Rattle.std.proofs.Common.{ℕ, arith}
-use Rattle.st_oer.specs.Tallies.{TakesTurns}
-use Rattle.st_oer.specs.declared.tally.Tally.{Tally}
+use Rattle.st_devices.specs.Tallies.{TakesTurns}
+use Rattle.st_devices.specs.declared.tally.Tally.{Tally}
 
 pub takes_more : (t u v : Tally) (a b c : ℕ) → TakesTurns t u a b → TakesTurns u v b c → TakesTurns t v a c
 takes_more t u v a b c first second = record {

@@ -1,9 +1,9 @@
 -- What was read of a stream, and why no more; what was written to it.
 use Rattle.std.specs.Prelude.{◌≡◌, ℕ, ◌≤◌, List, length, take, Option, ⊤, Result, Ok, Err, IfErr}
 use Rattle.std.specs.Io.KnownBytes.{Appends, Consumes, IsAtEnd}
-use Rattle.st_oer.specs.Faults.{count_after}
-use Rattle.st_oer.specs.Tallies.{TakesTurns}
-use Rattle.st_oer.specs.declared.tally.Tally.{Tally}
+use Rattle.st_devices.specs.Faults.{count_after}
+use Rattle.st_devices.specs.Tallies.{TakesTurns}
+use Rattle.st_devices.specs.declared.tally.Tally.{Tally}
 use Rattle.st_http.specs.declared.error.HttpError.{HttpError}
 use Rattle.st_http.specs.declared.error.HttpError.TheVariants.{ReadFault, WriteFault, BadHead, Status, TooLong, Cut, Turns, NoMemory}
 use Rattle.st_http.specs.Verdict.{Expected}

@@ -4,13 +4,13 @@ ghost use Rattle.std.specs.Prelude.{◌≡◌, IsTrue, IfOk, IfErr};
 ghost use Rattle.st_http.specs.Texts as texts;
 ghost use Rattle.st_http.specs.Exchanges.{known, IsExchanged, ExplainsExchange};
 ghost use Rattle.st_http.specs.Reads.{SpendsTurns, faults_told};
-ghost use Rattle.st_oer.specs.Tallies.{device_of, tally_of};
+ghost use Rattle.st_devices.specs.Tallies.{device_of, tally_of};
 
 use crate::error::HttpError;
 use crate::reading::Reading;
 use crate::reads::{read_message, write_message};
 use crate::texts::request_text;
-use st_oer::Counting;
+use st_devices::Counting;
 use std::alloc::{Allocator, Global};
 use std::io::{Read, Write};
 

@@ -6,11 +6,11 @@ ghost use Rattle.st_http.specs.Message.{Says, unfinished};
 ghost use Rattle.st_http.specs.Progress.{IsWhole};
 ghost use Rattle.st_http.specs.Reads.{ExplainsRead, ExplainsWrite, faults_told};
 ghost use Rattle.st_http.specs.declared.error.HttpError.TheVariants.{Turns};
-ghost use Rattle.st_oer.specs.Tallies.{TakesTurns, device_of, tally_of};
+ghost use Rattle.st_devices.specs.Tallies.{TakesTurns, device_of, tally_of};
 
 use crate::error::HttpError;
 use crate::reading::Reading;
-use st_oer::{Counting, PutError, ReadTurn, put_all, read_turn};
+use st_devices::{Counting, PutError, ReadTurn, put_all, read_turn};
 use std::alloc::Allocator;
 use std::io::{Read, Write};
 

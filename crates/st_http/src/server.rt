@@ -5,7 +5,7 @@ ghost use Rattle.st_http.specs.Exchanges.{known};
 ghost use Rattle.st_http.specs.Progress.{account_of, body_of};
 ghost use Rattle.st_http.specs.Reads.{SpendsTurns, faults_told};
 ghost use Rattle.st_http.specs.declared.error.HttpError.TheVariants.{Turns};
-ghost use Rattle.st_oer.specs.Tallies.{TakesTurns, device_of, tally_of};
+ghost use Rattle.st_devices.specs.Tallies.{TakesTurns, device_of, tally_of};
 ghost use Rattle.st_http.specs.Serves.{IsCalled, IsDue, IsServed, ExplainsNoResponse, ExplainsServe, Responds};
 ghost use Rattle.st_http.specs.Texts as spec;
 
@@ -14,7 +14,7 @@ use crate::error::HttpError;
 use crate::reading::Reading;
 use crate::reads::{read_message, write_message};
 use crate::texts::{answer_text, refusal_text};
-use st_oer::Counting;
+use st_devices::Counting;
 use std::alloc::{AllocError, Allocator, Global};
 use std::io::{Read, Write};
 

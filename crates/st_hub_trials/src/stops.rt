@@ -2,9 +2,9 @@
 use crate::ends::Counting;
 use crate::hubs::{Locked, Trial, offer, run, work_on};
 use st_desk::{Link, LinkFault};
+use st_devices::Counted;
 use st_hub::WorkEnd;
 use st_ilp::Moment;
-use st_oer::Counted;
 use st_queues::{GaugeSeat, HubName};
 use std::alloc::Global;
 use std::process::Abort;

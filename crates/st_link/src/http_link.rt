@@ -7,15 +7,15 @@ ghost use Rattle.st_http.specs.Texts as texts;
 ghost use Rattle.st_link.specs.Links.{IsTimeUntil, caused_fault, fault_of, share};
 ghost use Rattle.st_link.specs.declared.cause.LinkCause as causes;
 ghost use Rattle.st_link.specs.declared.cause.Unreached.TheVariants.{Other};
-ghost use Rattle.st_oer.specs.Faults.{Rose};
+ghost use Rattle.st_devices.specs.Faults.{Rose};
 
 use crate::buffered::Buffered;
 use crate::cause::{LinkCause, Unreached, is_out_of_descriptors};
 use crate::timed::{Timed, deadline_in, left_until};
 use st_desk::{Link, LinkFault};
+use st_devices::{Counted, Counting};
 use st_http::{HttpError, exchange};
 use st_ilp::Moment;
-use st_oer::{Counted, Counting};
 use std::alloc::{AllocError, Allocator, Global};
 use std::io;
 use std::io::{Read, Write};

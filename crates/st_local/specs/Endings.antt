@@ -1,10 +1,10 @@
 -- How a run ended, and what was written by then.
 use Rattle.std.specs.Prelude.{◌≡◌, ◌⊎◌, ⊤, ℕ, ◌+◌, ◌-◌, ◌^◌, ◌≤◌, ◌<◌, true, List, ◌++◌, length, take, Option, Some, None, IfSome, Result, Ok, Err}
 use Rattle.std.specs.Io.KnownBytes.{Appends}
-use Rattle.st_oer.specs.Faults.{count_after}
-use Rattle.st_oer.specs.Tallies.{device_of, tally_of}
-use Rattle.st_oer.specs.declared.counted.Counting.{Counting}
-use Rattle.st_oer.specs.declared.tally.Tally.{Tally}
+use Rattle.st_devices.specs.Faults.{count_after}
+use Rattle.st_devices.specs.Tallies.{device_of, tally_of}
+use Rattle.st_devices.specs.declared.counted.Counting.{Counting}
+use Rattle.st_devices.specs.declared.tally.Tally.{Tally}
 use Rattle.st_local.specs.declared.fault.LocalFault.{LocalFault}
 use Rattle.st_local.specs.declared.fault.LocalFault.TheVariants as fault
 use Rattle.st_local.specs.Errors.{fault_number, reader_faults, writer_faults}

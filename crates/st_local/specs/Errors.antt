@@ -1,6 +1,6 @@
 -- The numbers by which faults are known, and which devices count them.
 use Rattle.std.specs.Prelude.{ℕ, Option, Some, None, Result, Ok, Err}
-use Rattle.st_oer.specs.Faults.{count_after}
+use Rattle.st_devices.specs.Faults.{count_after}
 use Rattle.st_local.specs.declared.fault.LocalFault.{LocalFault}
 use Rattle.st_local.specs.declared.fault.LocalFault.TheVariants.{Failed, TooLong, Input, Output, Turns, Events, NoMemory}
 

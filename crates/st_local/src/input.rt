@@ -1,12 +1,12 @@
 //! The input, read to its end.
 
 ghost use Rattle.std.specs.Prelude.{◌≡◌, ◌≤◌, length, IfSome, IfOk, IfErr};
-ghost use Rattle.st_oer.specs.Tallies.{TakesTurns, device_of, tally_of};
+ghost use Rattle.st_devices.specs.Tallies.{TakesTurns, device_of, tally_of};
 ghost use Rattle.st_local.specs.Errors.{fault_of, reader_faults};
 ghost use Rattle.st_local.specs.Endings.{most_bytes, KeepsPiece, StopsRead};
 
 use crate::fault::LocalFault;
-use st_oer::{CountRead, ReadTurn, read_turn};
+use st_devices::{CountRead, ReadTurn, read_turn};
 use std::alloc::Allocator;
 use std::io::Read;
 

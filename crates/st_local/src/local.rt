@@ -2,7 +2,7 @@
 
 ghost use Rattle.std.specs.Prelude.{◌≡◌, ◌⊎◌, ◌<◌, ◌≤◌, ◌^◌, ℕ, [], length, Some, IfErr, IfSome, OnOk};
 ghost use Rattle.std.specs.Io.KnownBytes.{Appends};
-ghost use Rattle.st_oer.specs.Tallies.{TakesTurns, device_of, tally_of};
+ghost use Rattle.st_devices.specs.Tallies.{TakesTurns, device_of, tally_of};
 ghost use Rattle.st_local.specs.Errors.{fault_of, reader_faults, writer_faults};
 ghost use Rattle.st_local.specs.Parts.{joined, stream_at};
 ghost use Rattle.st_local.specs.Playing.{read_on, written_on};
@@ -16,7 +16,7 @@ use crate::parts::stream_at;
 use crate::play::Play;
 use crate::sends::{LocalSends, sends_of};
 use crate::streams::send_parts;
-use st_oer::{CountRead, CountWrite};
+use st_devices::{CountRead, CountWrite};
 use st_settings::LocalSettings;
 use std::alloc::Allocator;
 use std::io::{Read, Write};

@@ -2,13 +2,13 @@
 
 ghost use Rattle.std.specs.Prelude.{◌≡◌, ◌⊎◌, IfErr, OnOk, true};
 ghost use Rattle.std.specs.Io.KnownBytes.{Appends, Keeps};
-ghost use Rattle.st_oer.specs.Tallies.{TakesTurns, device_of, tally_of};
+ghost use Rattle.st_devices.specs.Tallies.{TakesTurns, device_of, tally_of};
 ghost use Rattle.st_local.specs.Errors.{fault_of, writer_faults};
 ghost use Rattle.st_local.specs.Endings.{Says, StaysFlushed, StopsWrite, TellsFault, WritesPart};
 
 use crate::fault::LocalFault;
 use crate::texts::fault_line;
-use st_oer::{CountWrite, FlushTurn, PutError, flush_turn, put_all};
+use st_devices::{CountWrite, FlushTurn, PutError, flush_turn, put_all};
 use std::io::Write;
 
 /// The greatest number of I/O calls of a run, of its reader and its writer: 2^31 - 1. The writer for errors has as many

@@ -1,7 +1,7 @@
 -- Nothing is left out without being counted, and ten lines a second are the most.
 use Rattle.std.proofs.Common.{◌≡◌, ℕ, zero, suc, ◌+◌, ◌^◌, ◌<◌, [], ◌∷◌, refl, sym, ap, ◌∙◌, arith}
 use Rattle.std.proofs.lemmas.Bool.{eq-eqb}
-use Rattle.st_oer.specs.Faults.{count_after}
+use Rattle.st_devices.specs.Faults.{count_after}
 use Rattle.st_log.specs.Laws.{EventsAreCounted, TenASecond}
 use Rattle.st_log.specs.Pacing.{Slot, written_in}
 use Rattle.st_log.specs.declared.pace.Verdict.TheVariants.{Write, LeaveOut}

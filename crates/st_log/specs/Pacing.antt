@@ -1,6 +1,6 @@
 -- Which lines are written, and what is counted of the others.
 use Rattle.std.specs.Prelude.{◌≡◌, ℕ, suc, ◌+◌, ◌*◌, ◌<◌, ◌≤◌, ◌==◌, min, if◌then◌else◌, List, [], ◌∷◌, Option, Some, None}
-use Rattle.st_oer.specs.Faults.{count_after}
+use Rattle.st_devices.specs.Faults.{count_after}
 use Rattle.st_log.specs.Lines.{place_of}
 use Rattle.st_log.specs.declared.event.Kind.{Kind}
 use Rattle.st_log.specs.declared.pace.Left.{Left}

@@ -1,6 +1,6 @@
 -- What finds room among the lines that wait, and what is counted as lost.
 use Rattle.std.specs.Prelude.{◌≡◌, ℕ, ℤ, ◌+◌, ◌==◌, nat_le, Bool, true, false, if◌then◌else◌, List, [], ◌∷◌, ◌++◌, length}
-use Rattle.st_oer.specs.Faults.{count_after}
+use Rattle.st_devices.specs.Faults.{count_after}
 use Rattle.st_log.specs.Lines.{line_text}
 use Rattle.st_log.specs.Waiting.{most_lines, texts}
 use Rattle.st_log.specs.declared.event.Event.TheVariants as event

@@ -6,8 +6,4 @@ pub mod Laws
 pub mod Address
 pub mod Text
 pub mod Errors
-pub mod Faults
-pub mod Tallies
-pub mod Turns
-pub mod FailAt
 pub mod Ratios

@@ -4,36 +4,25 @@
 //! except limits (`specs/Spelling.antt`). A field is read exactly if the bytes begin with its encoding; otherwise the
 //! first fault is the error (`specs/Reading.antt`, `laws`).
 //!
-//! The crate also has the checks of addresses (RFC 0015) and of UTF-8 texts, exchange rates, and readers and writers
-//! that count their I/O calls and errors, with a bound on the number of calls.
+//! The crate also has the checks of addresses (RFC 0015) and of UTF-8 texts, and exchange rates.
 #![tactic(auto)]
 
 mod address;
-mod counted;
 mod cut;
 mod error;
-mod fail_at;
 mod laws;
 mod put;
 mod rate;
 mod reading;
-mod tally;
 mod text;
-mod turn;
 
 pub use address::{MAX_ADDRESS, is_address, is_within};
-pub use counted::{CountRead, CountWrite, Counted, Counting};
 pub use cut::Cut;
 pub use error::OerError;
-pub use fail_at::FailAt;
 pub use laws::{
     digits_are_fewest, fields_are_read_as_spelled, no_spelling_begins_another,
     reading_wants_no_memory,
 };
 pub use put::{length_size, put_length, put_octets, put_u8, put_u64, put_var_uint, var_uint_size};
 pub use rate::Rate;
-pub use tally::Tally;
 pub use text::utf8;
-pub use turn::{
-    FlushTurn, PutError, ReadTurn, WriteTurn, flush_turn, put_all, read_turn, write_turn,
-};

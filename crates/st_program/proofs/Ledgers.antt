@@ -5,10 +5,10 @@ use Rattle.std.specs.Prelude.{Bool, IfErr, IsErrAnd, IsSome, OnOk, Result, Ok, E
 use Rattle.std.specs.Borrow.{Bor}
 use Rattle.sqlite_trees.specs.declared.store.Store.{Ghosts}
 use Rattle.st_hop.specs.declared.route.Route.{Route}
-use Rattle.st_oer.specs.Faults.{count_after}
-use Rattle.st_oer.specs.Tallies.{TakesTurns, device_of, tally_of}
-use Rattle.st_oer.specs.declared.counted.Counting.{Counting}
-use Rattle.st_oer.specs.declared.tally.Tally.{Tally}
+use Rattle.st_devices.specs.Faults.{count_after}
+use Rattle.st_devices.specs.Tallies.{TakesTurns, device_of, tally_of}
+use Rattle.st_devices.specs.declared.counted.Counting.{Counting}
+use Rattle.st_devices.specs.declared.tally.Tally.{Tally}
 use Rattle.st_books.specs.declared.balance.Amounts.{Amounts}
 use Rattle.st_books.specs.declared.balance.Entry.{Entry}
 use Rattle.st_books.specs.declared.balance.Side.{Side}

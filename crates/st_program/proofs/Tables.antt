@@ -12,7 +12,7 @@ use Rattle.st_settings.specs.Table.{AreDistinct, HasBad, HasSameName, Says, Text
 use Rattle.st_settings.specs.declared.line.AccountLine.{AccountLine}
 use Rattle.st_program.specs.declared.error.RunError.{RunError}
 use Rattle.st_program.specs.declared.error.RunError.TheVariants as run
-use Rattle.st_oer.specs.declared.tally.Tally.{Tally}
+use Rattle.st_devices.specs.declared.tally.Tally.{Tally}
 use Rattle.st_commands.specs.declared.error.Fault.{Fault}
 use Rattle.st_commands.specs.declared.error.Fault.TheVariants as fault
 use Rattle.st_program.specs.Input.{FailsToRead}

@@ -7,7 +7,7 @@ use Rattle.std.proofs.lemmas.List.{append-nil, take_more, length-take-le}
 use Rattle.st_commands.specs.declared.error.Fault.{Fault}
 use Rattle.st_program.specs.declared.error.RunError.{RunError}
 use Rattle.st_program.specs.declared.error.RunError.TheVariants as run
-use Rattle.st_oer.specs.declared.tally.Tally.{Tally}
+use Rattle.st_devices.specs.declared.tally.Tally.{Tally}
 use Rattle.st_program.specs.Table.{EndsBy, EndsByFile, EndsByTable, Lives}
 use Rattle.st_program.specs.Totals.{IsEmptyBeside, Replaced, TakesPlace, ended_with, lines_from}
 

@@ -2,7 +2,7 @@
 use Rattle.std.proofs.Common.{◌≡◌, ◌≢◌, ℕ, Bool, true, false, List, Option, Some, None, refl, sym, subst, ◌∙◌, ◌⊎◌, inl, inr}
 use Rattle.std.specs.Prelude.{Result, Ok, Err, IsNone, IsSome}
 use Rattle.std.specs.Borrow.{Bor}
-use Rattle.st_oer.specs.declared.counted.Counting.{Counting}
+use Rattle.st_devices.specs.declared.counted.Counting.{Counting}
 use Rattle.st_end.specs.Calls.{set_receive_max}
 use Rattle.st_end.specs.State.{EndState}
 use Rattle.st_end.specs.Totals.{Totals}

@@ -1,6 +1,6 @@
 -- The token and the secret of an end, which are given or read from files.
 use Rattle.std.specs.Prelude.{◌≡◌, ◌⊎◌, ℕ, true, ⊤, List, Option, IfSome, Result, Ok, Err, string_bytes}
-use Rattle.st_oer.specs.declared.tally.Tally.{Tally}
+use Rattle.st_devices.specs.declared.tally.Tally.{Tally}
 use Rattle.st_http.specs.Texts.{is_field_text}
 use Rattle.st_commands.specs.declared.error.Fault.{Fault}
 use Rattle.st_commands.specs.declared.error.Fault.TheVariants as fault

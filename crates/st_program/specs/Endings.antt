@@ -1,8 +1,8 @@
 -- What the program answers, and how a command ended.
 use Rattle.std.specs.Prelude.{◌≡◌, ◌⊎◌, ℕ, List, MatchOption, Option, Some, None, Result, Ok, Err}
 use Rattle.clap.specs.Words.{Kinds}
-use Rattle.st_oer.specs.Tallies.{device_of, tally_of}
-use Rattle.st_oer.specs.declared.counted.Counting.{Counting}
+use Rattle.st_devices.specs.Tallies.{device_of, tally_of}
+use Rattle.st_devices.specs.declared.counted.Counting.{Counting}
 use Rattle.st_commands.specs.declared.error.Fault.{Fault}
 use Rattle.st_commands.specs.declared.error.Fault.TheVariants as fault
 use Rattle.st_commands.specs.Endings.{RunsFrames, Says, TellsFault}

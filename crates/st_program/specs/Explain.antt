@@ -1,8 +1,8 @@
 -- What the command `explain` prints, and how it ends.
 use Rattle.std.specs.Prelude.{◌≡◌, ◌⊎◌, ℕ, List, Option, Some, None}
 use Rattle.std.specs.Io.KnownBytes.{Appends}
-use Rattle.st_oer.specs.Tallies.{device_of}
-use Rattle.st_oer.specs.declared.counted.Counting.{Counting}
+use Rattle.st_devices.specs.Tallies.{device_of}
+use Rattle.st_devices.specs.declared.counted.Counting.{Counting}
 use Rattle.st_commands.specs.declared.error.Fault.{Fault}
 use Rattle.st_commands.specs.Endings.{Says, TellsFault, WritesPart}
 use Rattle.st_faults.specs.Explaining.{explanation}

@@ -1,8 +1,8 @@
 -- What was read of an input.
 use Rattle.std.specs.Prelude.{◌≡◌, ℕ, Bool, true, List, ◌++◌, Option, ⊤}
 use Rattle.std.specs.Io.KnownBytes.{Consumes, IsAtEnd}
-use Rattle.st_oer.specs.Faults.{count_after}
-use Rattle.st_oer.specs.declared.tally.Tally.{Tally}
+use Rattle.st_devices.specs.Faults.{count_after}
+use Rattle.st_devices.specs.declared.tally.Tally.{Tally}
 use Rattle.st_commands.specs.Endings.{most_turns}
 use Rattle.st_commands.specs.declared.error.Fault.{Fault}
 use Rattle.st_commands.specs.declared.error.Fault.TheVariants as fault

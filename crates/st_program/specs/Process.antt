@@ -1,8 +1,8 @@
 -- What the program does as a process. No clause can say which arguments a process has: here they are some arguments.
 use Rattle.std.specs.Prelude.{◌≡◌, ◌≢◌, ◌⊎◌, ℕ, ◌≤◌, Bool, true, List, [], Option}
 use Rattle.clap.specs.Words.{Text}
-use Rattle.st_oer.specs.Tallies.{device_of}
-use Rattle.st_oer.specs.declared.counted.Counting.{Counting}
+use Rattle.st_devices.specs.Tallies.{device_of}
+use Rattle.st_devices.specs.declared.counted.Counting.{Counting}
 use Rattle.st_commands.specs.declared.error.Fault.{Fault}
 use Rattle.st_commands.specs.declared.error.Fault.TheVariants.{NoMemory}
 use Rattle.st_commands.specs.Endings.{RunsFrames, Says, TellsFault}

@@ -8,7 +8,7 @@ use Rattle.st_hop.specs.Table.{is_table}
 use Rattle.st_hop.specs.declared.route.Route.{Route}
 use Rattle.st_settings.specs.declared.line.AccountLine.{AccountLine}
 use Rattle.st_settings.specs.Table.{AreDistinct, HasBad, HasSameName, Says, names_of}
-use Rattle.st_oer.specs.declared.tally.Tally.{Tally}
+use Rattle.st_devices.specs.declared.tally.Tally.{Tally}
 use Rattle.st_commands.specs.declared.error.Fault.TheVariants as fault
 use Rattle.st_program.specs.Input.{FailsToRead}
 use Rattle.st_program.specs.declared.error.RunError.{RunError}

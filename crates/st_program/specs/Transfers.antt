@@ -2,8 +2,8 @@
 use Rattle.std.specs.Prelude.{◌≡◌, ◌⊎◌, ℕ, Bool, List, Option, Some, None, IsNone, IsSome, Result, Ok, Err, IfErr, IsErrOf, OnOk, string_bytes}
 use Rattle.std.specs.Borrow.{Bor}
 use Rattle.std.specs.Io.KnownBytes.{Appends}
-use Rattle.st_oer.specs.Tallies.{device_of}
-use Rattle.st_oer.specs.declared.counted.Counting.{Counting}
+use Rattle.st_devices.specs.Tallies.{device_of}
+use Rattle.st_devices.specs.declared.counted.Counting.{Counting}
 use Rattle.st_keys.specs.Keys.{keys_of}
 use Rattle.st_sender.specs.Configs.{config, with_least}
 use Rattle.st_sender.specs.Sending.{Config}

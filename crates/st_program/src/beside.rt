@@ -1,13 +1,13 @@
 //! A text that is written to a new file, which then replaces another file as a whole.
 
 ghost use Rattle.std.specs.Prelude.{◌≡◌, ℕ, List, Option, None, MatchBool, IfSome, OnErr, OnOk};
-ghost use Rattle.st_oer.specs.Tallies.{device_of};
+ghost use Rattle.st_devices.specs.Tallies.{device_of};
 ghost use Rattle.st_program.specs.Totals.{IsEmptyBeside, Replaced, TakesPlace};
 
 use crate::obstacle::{Cause, cause_of};
 use libc::getpid;
 use st_commands::{Fault, TURNS, put};
-use st_oer::CountWrite;
+use st_devices::CountWrite;
 use std::alloc::Global;
 use std::fs::{File, Files, Metadata, OpenOptions};
 use std::io::{ErrorKind, Write};

@@ -2,7 +2,7 @@
 
 ghost use Rattle.std.specs.Prelude.{◌≡◌, true, IfErr, IfOk, IfSome, IsNone, IsSome};
 ghost use Rattle.std.specs.Duration.{as_nanos};
-ghost use Rattle.st_oer.specs.Tallies.{device_of, tally_of};
+ghost use Rattle.st_devices.specs.Tallies.{device_of, tally_of};
 ghost use Rattle.st_commands.specs.Endings.{most_turns};
 ghost use Rattle.st_program.specs.Restored.{IsOfBooks};
 ghost use Rattle.st_program.specs.Table as spec;
@@ -25,10 +25,10 @@ use st_booking::Keeper;
 use st_books::Books;
 use st_commands::{Fault, TURNS};
 use st_desk::{NoBooks, Till};
+use st_devices::CountRead;
 use st_hop::HopState;
 use st_ledger::{LedgerError, OpensBooks, Placed, Watched, Watcher};
 use st_log::{Event, Start};
-use st_oer::CountRead;
 use st_settings::{ConnectorSettings, Table};
 use st_transfer::{
     ConnectTerms, ConnectorEnded, Counts, MOST_THREADS, Minutes, Neighbour, connector_on,

@@ -1,7 +1,7 @@
 //! The token and the secret of an end: given, or read from files.
 
 ghost use Rattle.std.specs.Prelude.{◌≡◌, true, IfErr, IfOk, string_bytes};
-ghost use Rattle.st_oer.specs.Tallies.{device_of, tally_of};
+ghost use Rattle.st_devices.specs.Tallies.{device_of, tally_of};
 ghost use Rattle.st_http.specs.Texts as texts;
 ghost use Rattle.st_commands.specs.declared.error.Fault.TheVariants.{NoMemory};
 ghost use Rattle.st_settings.specs.Sources.{IsSecret, IsToken};
@@ -13,7 +13,7 @@ use crate::error::RunError;
 use crate::input::read_whole;
 use crate::obstacle::{Cause, Obstacle, Step};
 use st_commands::Fault;
-use st_oer::CountRead;
+use st_devices::CountRead;
 use st_settings::{Secret, Token, first_secret, first_token};
 use std::alloc::Global;
 use std::fs::{File, Files};

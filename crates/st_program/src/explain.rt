@@ -1,14 +1,14 @@
 //! The command `explain`.
 
 ghost use Rattle.std.specs.Prelude.{◌≡◌, ◌≤◌};
-ghost use Rattle.st_oer.specs.Tallies.{tally_of};
-ghost use Rattle.st_oer.specs.declared.tally.Tally.{Tally};
+ghost use Rattle.st_devices.specs.Tallies.{tally_of};
+ghost use Rattle.st_devices.specs.declared.tally.Tally.{Tally};
 ghost use Rattle.st_commands.specs.Endings.{HasEnded};
 ghost use Rattle.st_program.specs.Explain.{Explains, WritesText};
 
 use st_commands::{TURNS, put, say, tell_fault};
+use st_devices::CountWrite;
 use st_faults::explanation;
-use st_oer::CountWrite;
 use std::io::Write;
 
 /// What is printed for a number that no fault and no refusal has.

@@ -1,14 +1,14 @@
 //! How the whole input is read.
 
 ghost use Rattle.std.specs.Prelude.{◌≡◌, ◌⊎◌, IfErr, IfOk, IfSome};
-ghost use Rattle.st_oer.specs.Tallies.{device_of, tally_of};
+ghost use Rattle.st_devices.specs.Tallies.{device_of, tally_of};
 ghost use Rattle.st_commands.specs.Endings.{fault_of, reader_faults};
-ghost use Rattle.st_oer.specs.Faults.{count_after};
+ghost use Rattle.st_devices.specs.Faults.{count_after};
 ghost use Rattle.st_commands.specs.declared.error.Fault.TheVariants.{Input, NoMemory};
 ghost use Rattle.st_program.specs.Input.{FailsToRead, ReadsOn};
 
 use st_commands::{Fault, TURNS};
-use st_oer::{CountRead, ReadTurn, read_turn};
+use st_devices::{CountRead, ReadTurn, read_turn};
 use std::alloc::Global;
 use std::io::Read;
 

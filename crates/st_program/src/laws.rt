@@ -3,7 +3,7 @@
 ghost use Rattle.std.specs.Prelude.{ℕ, List, Option, Result};
 ghost use Rattle.std.specs.Borrow.{Bor};
 ghost use Rattle.clap.specs.Words.{Text};
-ghost use Rattle.st_oer.specs.declared.tally.Tally.{Tally};
+ghost use Rattle.st_devices.specs.declared.tally.Tally.{Tally};
 ghost use Rattle.st_program.specs.declared.error.RunError.{RunError};
 ghost use Rattle.st_program.specs.Table.{EndsBy, TellsBad};
 ghost use Rattle.st_program.specs.Words.{AsksFrames, NamesFrames, after_name};

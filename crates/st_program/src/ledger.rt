@@ -2,7 +2,7 @@
 
 ghost use Rattle.std.specs.Prelude.{◌≡◌, Some, IfErr, IfOk, OnOk};
 ghost use Rattle.std.specs.Io.KnownBytes.{Appends};
-ghost use Rattle.st_oer.specs.Tallies.{device_of, tally_of};
+ghost use Rattle.st_devices.specs.Tallies.{device_of, tally_of};
 ghost use Rattle.st_commands.specs.declared.error.Fault.{Fault};
 ghost use Rattle.st_ledger.specs.Placing.{IsLate};
 ghost use Rattle.st_program.specs.Ledger.{EndsLedger, FailsToWrite, IsPrinted, IsPrintedAlone, IsPrintedOnce, PrintsFound};
@@ -14,10 +14,10 @@ use sqlite_trees::store::Alter;
 use st_books::{Amounts, Books, Entry, Kind, Side};
 use st_commands::{TURNS, put};
 use st_desk::Clock;
+use st_devices::CountWrite;
 use st_ledger::{
     LedgerError, OpensBooks, account_text, ledger_text, repeated_text, settle, settle_once,
 };
-use st_oer::CountWrite;
 use st_settings::{LedgerSettings, Payment};
 use st_transfer::RuntimeClock;
 use std::alloc::{AllocError, Global};

@@ -2,7 +2,7 @@
 
 ghost use Rattle.std.specs.Prelude.{◌≡◌, ◌≤◌, IfOk, IfSome, MatchOption, OnOk, Result, string_bytes};
 ghost use Rattle.std.specs.Io.KnownBytes.{Appends};
-ghost use Rattle.st_oer.specs.Tallies.{device_of, tally_of};
+ghost use Rattle.st_devices.specs.Tallies.{device_of, tally_of};
 ghost use Rattle.st_commands.specs.declared.error.Fault.{Fault};
 ghost use Rattle.st_local.specs.Endings as ends;
 ghost use Rattle.st_program.specs.Endings.{TellsLocal};
@@ -16,8 +16,8 @@ use crate::obstacle::Obstacle;
 use crate::tell::{tell_end, tell_number, tell_terminal};
 use crate::totals::{Telling, place_for, tell_text};
 use st_commands::Fault;
+use st_devices::{CountRead, CountWrite};
 use st_local::{LocalSends, TURNS, play_local, run_local};
-use st_oer::{CountRead, CountWrite};
 use st_settings::{LocalRequest, LocalSettings};
 use std::alloc::{AllocError, Global};
 use std::fs::{File, Files};

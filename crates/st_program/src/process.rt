@@ -1,7 +1,7 @@
 //! The program as a process runs it, with the arguments of that process.
 
 ghost use Rattle.std.specs.Prelude.{◌≡◌, ◌≤◌, ◌⊎◌, map};
-ghost use Rattle.st_oer.specs.Tallies.{tally_of};
+ghost use Rattle.st_devices.specs.Tallies.{tally_of};
 ghost use Rattle.st_commands.specs.Endings.{HasEnded, Says, TellsFault};
 ghost use Rattle.st_program.specs.Process.{LacksWords, ObeysSome, TellsTerminal};
 ghost use Rattle.st_program.specs.Texts.{not_utf8_text};
@@ -10,8 +10,8 @@ use crate::program::run;
 use crate::stdin::{Interruptible, STDIN};
 use crate::streams::{Held, Streams};
 use st_commands::{Fault, say, tell_fault};
+use st_devices::{CountRead, CountWrite};
 use st_ledger::OpensBooks;
-use st_oer::{CountRead, CountWrite};
 use st_words::{Request, read_words};
 use std::alloc::Global;
 use std::convert::AsStr;

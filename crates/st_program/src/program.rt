@@ -1,7 +1,7 @@
 //! The program, over its arguments and three streams.
 
 ghost use Rattle.std.specs.Prelude.{◌≡◌, ◌≤◌, ◌⊎◌, map, None, Some};
-ghost use Rattle.st_oer.specs.Tallies.{tally_of};
+ghost use Rattle.st_devices.specs.Tallies.{tally_of};
 ghost use Rattle.clap.specs.Words.{HasKind, Kinds, kind_of};
 ghost use Rattle.st_commands.specs.Endings.{HasEnded, TellsFault};
 ghost use Rattle.st_program.specs.Settings.{IsLawful};
@@ -20,8 +20,8 @@ use crate::tell::{tell_end, tell_number, tell_terminal};
 use clap::Error;
 use clap::error::ErrorKind;
 use st_commands::{Fault, TURNS, put, run_frames, say, tell_fault};
+use st_devices::{CountRead, CountWrite, Tally};
 use st_ledger::OpensBooks;
-use st_oer::{CountRead, CountWrite, Tally};
 use st_words::{Request, WordsError, broken_rule, read_words};
 use std::alloc::Global;
 use std::convert::AsStr;

@@ -1,7 +1,7 @@
 //! The command `receive`.
 
 ghost use Rattle.std.specs.Prelude.{◌≡◌, ◌≢◌, Err, IfOk, IsNone, IsOkUnless, IsSome};
-ghost use Rattle.st_oer.specs.Tallies.{device_of};
+ghost use Rattle.st_devices.specs.Tallies.{device_of};
 ghost use Rattle.st_end.specs.Seen.{totals_seen};
 ghost use Rattle.st_end.specs.declared.error.EndError.TheVariants as refusals;
 ghost use Rattle.st_transfer.specs.declared.error.TransferError.TheVariants as transfer;
@@ -22,9 +22,9 @@ use crate::progress::{Side, Teller};
 use crate::send::widest;
 use crate::totals::nothing_yet;
 use st_commands::TURNS;
+use st_devices::CountWrite;
 use st_end::{EndState, Totals};
 use st_log::Start;
-use st_oer::CountWrite;
 use st_settings::ReceiveSettings;
 use st_transfer::{ReceiveTerms, RuntimeClock, TransferError, Watch, receive_on, server_end};
 use std::alloc::Global;

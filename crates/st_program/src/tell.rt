@@ -8,7 +8,7 @@ use crate::error::RunError;
 use crate::obstacle::{Obstacle, words_of};
 use crate::progress::{has_terminal, put_terminal};
 use st_commands::{Fault, say, tell_fault};
-use st_oer::CountWrite;
+use st_devices::CountWrite;
 use std::alloc::{AllocError, Global};
 use std::io::Write;
 

@@ -2,7 +2,7 @@
 
 ghost use Rattle.std.specs.Prelude.{◌≡◌, ◌⊎◌, IfErr, IfOk, IsNone, IsSome, OnErr, OnOk, Result, string_bytes, vec_len};
 ghost use Rattle.std.specs.Io.KnownBytes.{Appends};
-ghost use Rattle.st_oer.specs.Tallies.{device_of};
+ghost use Rattle.st_devices.specs.Tallies.{device_of};
 ghost use Rattle.st_end.specs.Seen.{totals_seen};
 ghost use Rattle.st_program.specs.Totals as spec;
 ghost use Rattle.st_program.specs.Transfers.{IsToldIn};
@@ -15,8 +15,8 @@ use crate::counts::counts_text;
 use crate::error::RunError;
 use crate::obstacle::{Obstacle, Step};
 use st_commands::{Fault, TURNS, put};
+use st_devices::CountWrite;
 use st_end::Totals;
-use st_oer::CountWrite;
 use st_transfer::{AccountTotals, Counts, Minutes};
 use std::alloc::{AllocError, Global};
 use std::fs;

@@ -1,7 +1,7 @@
 -- What a connector counts of the Prepares of each of its accounts.
 use Rattle.std.specs.Prelude.{◌≡◌, ℕ, ◌+◌, ◌*◌, ◌<◌, ◌≤◌, List, length, slice_get, slice_index, slice_set, Option, Some, None, MatchOption, Result, Ok, Err, if◌then◌else◌}
 use Rattle.std.specs.List.{insert}
-use Rattle.st_oer.specs.Faults.{count_after}
+use Rattle.st_devices.specs.Faults.{count_after}
 use Rattle.st_ilp.specs.Packets.{AnswerPacket, Fulfilled, Rejected}
 use Rattle.st_ilp.specs.Reading.{is_reject_text}
 use Rattle.st_ilp.specs.declared.error.IlpError.{IlpError}

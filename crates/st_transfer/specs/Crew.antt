@@ -1,7 +1,7 @@
 -- The threads of a connector and the requests that they claim.
 use Rattle.std.specs.Prelude.{⊤, ◌≡◌, ◌⊎◌, ℕ, ◌+◌, ◌-◌, ◌<◌, ◌≤◌, Bool, true, false, not, ◌&&◌, if◌then◌else◌, is_none, List, slice_index, slice_set, Option, Some, None, IsNone, IsSome}
 use Rattle.std.specs.Option.{option_or}
-use Rattle.st_oer.specs.Faults.{count_after}
+use Rattle.st_devices.specs.Faults.{count_after}
 use Rattle.st_transfer.specs.declared.roster.Failed.{Failed}
 use Rattle.st_transfer.specs.declared.roster.Failed.TheVariants as fails
 use Rattle.st_transfer.specs.declared.roster.Leave.{Leave}

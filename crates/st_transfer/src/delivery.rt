@@ -1,16 +1,16 @@
 //! How the bytes that arrive on stream 1 are written to the output.
 
 ghost use Rattle.std.specs.Prelude.{◌≡◌, ℕ, List, Option, true, OnOk, IfOk, IfErr};
-ghost use Rattle.st_oer.specs.Tallies.{device_of, tally_of};
+ghost use Rattle.st_devices.specs.Tallies.{device_of, tally_of};
 ghost use Rattle.st_receiver.specs.Decided.{got_seen};
 ghost use Rattle.st_end.specs.State as state;
 ghost use Rattle.st_end.specs.declared.error.EndError.TheVariants as refusals;
 ghost use Rattle.st_transfer.specs.Keeping.{Delivers, Gives, IsOfDelivery, Kept, faults_told};
 
 use crate::error::TransferError;
+use st_devices::Counting;
 use st_end::{EndError, EndState};
 use st_file::{FileError, flush_all, write_piece};
-use st_oer::Counting;
 use st_receiver::Got;
 use std::alloc::Global;
 use std::io::Write;

@@ -2,10 +2,10 @@
 
 ghost use Rattle.std.specs.Prelude.{◌≡◌, IfSome, MatchOption};
 ghost use Rattle.std.specs.Io.KnownBytes.{Consumes};
-ghost use Rattle.st_oer.specs.Faults.{count_after};
+ghost use Rattle.st_devices.specs.Faults.{count_after};
 
+use st_devices::Counted;
 use st_hub::Ivs;
-use st_oer::Counted;
 use std::io::Read;
 use std::sync::{Mutex, Wait};
 

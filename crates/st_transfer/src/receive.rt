@@ -1,7 +1,7 @@
 //! The command `receive`.
 
 ghost use Rattle.std.specs.Prelude.{◌≡◌, ◌<◌, true, OnOk, IsSome, Err};
-ghost use Rattle.st_oer.specs.Tallies.{device_of, tally_of};
+ghost use Rattle.st_devices.specs.Tallies.{device_of, tally_of};
 ghost use Rattle.st_end.specs.Calls as calls;
 ghost use Rattle.st_end.specs.Seen.{totals_seen};
 ghost use Rattle.st_transfer.specs.Answering.{IsWholeAt};
@@ -18,8 +18,8 @@ use crate::terms::ReceiveTerms;
 use crate::waiting::{AwaitListener, Patience};
 use crate::watching::{Idle, Watch};
 use st_desk::Clock;
+use st_devices::Counting;
 use st_end::EndState;
-use st_oer::Counting;
 use std::alloc::Global;
 use std::io::{Read, Write};
 use std::net::OpenStream;

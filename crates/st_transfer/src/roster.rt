@@ -1,7 +1,7 @@
 //! How many threads of a connector accept, how many requests they may still accept, and which of them may send.
 
 ghost use Rattle.std.specs.Prelude.{◌≡◌, ◌⊎◌, ◌+◌, ◌-◌, ◌^◌, ◌<◌, ◌↔◌, ℕ, false, true, not, is_none, replicate, slice_index, slice_set, unwrap_or, IfOk, IfSome, IsNone, IsSome, IsTrue, MatchBool, None, Some};
-ghost use Rattle.st_oer.specs.Faults.{count_after};
+ghost use Rattle.st_devices.specs.Faults.{count_after};
 ghost use Rattle.st_transfer.specs.Crew.{threads_of, Hires, LeavesAgain, LeavesUnserved, IsMissed, Stops, GivesUp, Wants, Begins, Takes, Leaves, IsNeeded, IsDone, GoesOn, Stays, LeavesNone, IsFailed, HasPlace, Sends, IsLeave, IsOfConnector};
 ghost use Rattle.st_transfer.specs.declared.error.TransferError.TheVariants.{Books};
 

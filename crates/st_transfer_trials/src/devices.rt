@@ -3,8 +3,8 @@
 use crate::sides::{Terms, connect, receive, send, with_money};
 use crate::transfers::{Kept, Place, listen, pattern, transfer, transfer_into};
 use crate::wires::{Door, Seen};
+use st_devices::{Counting, FailAt};
 use st_file::FileError;
-use st_oer::{Counting, FailAt};
 use st_transfer::TransferError;
 use std::alloc::Global;
 use std::io;

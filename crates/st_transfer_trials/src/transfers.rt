@@ -1,7 +1,7 @@
 //! A receiver and a sender at work together, each in a thread.
 
 use crate::sides::{Counter, Terms, receive, send};
-use st_oer::Counting;
+use st_devices::Counting;
 use st_transfer::TransferError;
 use std::alloc::Global;
 use std::io::{Read, Write};

@@ -1,7 +1,7 @@
 //! The command `frames` over a reader and two writers.
 
 use st_commands::run_frames;
-use st_oer::{CountRead, CountWrite};
+use st_devices::{CountRead, CountWrite};
 use std::alloc::Allocator;
 
 /// The status of `frames` over these lines, and what it printed.

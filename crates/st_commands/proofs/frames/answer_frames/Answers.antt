@@ -2,7 +2,7 @@ use Rattle.std.proofs.Common.{ap, refl, sym, ◌∙◌}
 use Rattle.st_commands.specs.Progress.{State, at_start}
 use Rattle.st_commands.proofs.Progressing.{answers_all_as, begins, begins_runs, covers_start}
 use Rattle.st_commands.proofs.Spending.{spends_writes}
-use Rattle.st_oer.specs.Tallies.{device_of, tally_of}
+use Rattle.st_devices.specs.Tallies.{device_of, tally_of}
 use Rattle.st_commands.proofs.frames.answer_frames.Goals as goal
 
 pub returns-then-refused-clause-answered : goal.returns-then-refused-clause-answered

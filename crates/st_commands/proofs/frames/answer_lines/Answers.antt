@@ -1,7 +1,7 @@
 use Rattle.std.proofs.Common.{refl, ◌∙◌, arith}
 use Rattle.st_commands.proofs.Progressing.{begins, covers_start}
 use Rattle.st_commands.proofs.Spending.{spends_nothing, spends_turn}
-use Rattle.st_oer.specs.Tallies.{device_of, tally_of}
+use Rattle.st_devices.specs.Tallies.{device_of, tally_of}
 use Rattle.st_commands.proofs.frames.answer_lines.Goals as goal
 
 pub loop-turns-init : goal.loop-turns-init

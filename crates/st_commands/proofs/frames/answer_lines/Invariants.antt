@@ -1,5 +1,5 @@
 use Rattle.std.proofs.Common.{◌≡◌, ◌≤◌, ◌+◌, ◌*◌}
-use Rattle.st_oer.specs.Tallies.{device_of, tally_of}
+use Rattle.st_devices.specs.Tallies.{device_of, tally_of}
 use Rattle.st_commands.specs.Endings.{SpendsTurns, StaysFlushed}
 use Rattle.st_commands.specs.Progress.{Covers}
 use Rattle.st_commands.proofs.frames.answer_lines.Given as goal

@@ -3,7 +3,7 @@ use Rattle.std.proofs.KnownBytes.{Appends-nil}
 use Rattle.std.proofs.lemmas.List.{length-set}
 use Rattle.st_commands.specs.Inboxes.{runs_text}
 use Rattle.st_commands.proofs.Progressing.{writes_all, writes_run, writes_runs_part, writes_whole}
-use Rattle.st_oer.specs.Tallies.{device_of}
+use Rattle.st_devices.specs.Tallies.{device_of}
 use Rattle.st_commands.proofs.frames.put_runs.Goals as goal
 
 pub loop-place-init : goal.loop-place-init

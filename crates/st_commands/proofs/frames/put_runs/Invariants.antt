@@ -2,7 +2,7 @@ use Rattle.std.proofs.Common.{◌≡◌, length}
 use Rattle.st_commands.specs.Endings.{StaysFlushed}
 use Rattle.st_commands.specs.Inboxes.{runs_text}
 use Rattle.st_commands.proofs.Progressing.{WritesRuns}
-use Rattle.st_oer.specs.Tallies.{TakesTurns, device_of, tally_of}
+use Rattle.st_devices.specs.Tallies.{TakesTurns, device_of, tally_of}
 use Rattle.st_commands.proofs.frames.put_runs.Given as goal
 
 abbrev pub invariant-loop-place : goal.invariant-loop-place

@@ -1,6 +1,6 @@
 use Rattle.std.proofs.Common.{refl, inl, inr, arith}
 use Rattle.st_commands.proofs.Spending.{ended_by, ended_well}
-use Rattle.st_oer.specs.Tallies.{tally_of}
+use Rattle.st_devices.specs.Tallies.{tally_of}
 use Rattle.st_commands.proofs.frames.run_frames.Goals as goal
 
 pub returns-in-Ok-AllTaken : goal.returns-in-Ok-AllTaken

@@ -2,7 +2,7 @@ use Rattle.std.proofs.Common.{◌≡◌, List, [], ◌++◌, ℕ, take, subst, a
 use Rattle.std.specs.Io.KnownBytes.{Appends}
 use Rattle.st_commands.specs.Endings.{WritesPart}
 use Rattle.st_commands.proofs.Progressing.{begins, begins_at_end, begins_in_piece, covers_ended, covers_piece, covers_same, on_err}
-use Rattle.st_oer.specs.Tallies.{device_of}
+use Rattle.st_devices.specs.Tallies.{device_of}
 use Rattle.st_commands.proofs.frames.turn.Goals as goal
 
 pub returns-in-End-clause-covers : goal.returns-in-End-clause-covers

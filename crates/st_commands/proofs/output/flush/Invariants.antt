@@ -1,6 +1,6 @@
 use Rattle.std.proofs.Common.{◌≡◌}
 use Rattle.std.specs.Io.KnownBytes.{Keeps}
-use Rattle.st_oer.specs.Tallies.{TakesTurns, device_of, tally_of}
+use Rattle.st_devices.specs.Tallies.{TakesTurns, device_of, tally_of}
 use Rattle.st_commands.proofs.output.flush.Given as goal
 
 abbrev pub decreases-loop-turns : goal.decreases-loop-turns

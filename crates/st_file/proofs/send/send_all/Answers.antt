@@ -1,5 +1,5 @@
 use Rattle.std.proofs.Common.{rules, ◌∙◌}
-use Rattle.st_oer.specs.Tallies.{device_of, tally_of}
+use Rattle.st_devices.specs.Tallies.{device_of, tally_of}
 use Rattle.st_file.proofs.Asks.{spends_asks, spends_turns}
 use Rattle.st_file.proofs.Sending.{sent_more}
 use Rattle.st_file.proofs.send.send_all.Goals as goal

@@ -1,5 +1,5 @@
 use Rattle.std.proofs.Common.{◌≡◌, []}
-use Rattle.st_oer.specs.Tallies.{device_of, tally_of}
+use Rattle.st_devices.specs.Tallies.{device_of, tally_of}
 use Rattle.st_file.specs.Sends.{SentPart}
 use Rattle.st_file.specs.Spending.{Spends}
 use Rattle.st_file.proofs.send.send_all.Given as goal

@@ -1,5 +1,5 @@
 use Rattle.std.proofs.Common.{rules, ◌∙◌, ap, inr, subst}
-use Rattle.st_oer.specs.Tallies.{device_of, tally_of}
+use Rattle.st_devices.specs.Tallies.{device_of, tally_of}
 use Rattle.st_http.specs.Verdict.{response}
 use Rattle.st_http.specs.Progress.{Progress}
 use Rattle.st_http.specs.Reads.{Reads, ExplainsRead}

@@ -1,6 +1,6 @@
 use Rattle.std.proofs.Common.{arith, [], append-nil, take, ◌∙◌}
 use Rattle.std.proofs.KnownBytes.{Consumes-kept, Consumes-trans}
-use Rattle.st_oer.specs.Tallies.{device_of}
+use Rattle.st_devices.specs.Tallies.{device_of}
 use Rattle.st_http.specs.Reads.{Reads}
 use Rattle.st_http.proofs.Refusals.{reads_part, explains_feed}
 use Rattle.st_http.proofs.reads.read_message.Goals as goal

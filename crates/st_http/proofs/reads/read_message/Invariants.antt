@@ -1,6 +1,6 @@
 use Rattle.std.proofs.Common.{◌≡◌, length}
 use Rattle.std.specs.Io.KnownBytes.{Consumes}
-use Rattle.st_oer.specs.Tallies.{TakesTurns, device_of, tally_of}
+use Rattle.st_devices.specs.Tallies.{TakesTurns, device_of, tally_of}
 use Rattle.st_http.specs.Message.{Says}
 use Rattle.st_http.specs.Progress.{IsTaken}
 use Rattle.st_http.proofs.reads.read_message.Given as goal

@@ -1,5 +1,5 @@
 use Rattle.std.proofs.Common.{◌∙◌, ap, sym, inr, refl, map, subst, ℕ, List}
-use Rattle.st_oer.specs.Tallies.{device_of}
+use Rattle.st_devices.specs.Tallies.{device_of}
 use Rattle.st_http.specs.Progress.{Progress}
 use Rattle.st_http.specs.Reads.{Reads, ReadsRefusal}
 use Rattle.st_http.specs.Serves.{IsDue}

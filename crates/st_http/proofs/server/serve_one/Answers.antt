@@ -1,4 +1,4 @@
-use Rattle.st_oer.specs.Tallies.{device_of, tally_of}
+use Rattle.st_devices.specs.Tallies.{device_of, tally_of}
 use Rattle.st_http.proofs.Spent.{takes_more}
 use Rattle.st_http.proofs.Wholes.{at_ok}
 use Rattle.st_http.proofs.server.serve_one.Goals as goal

@@ -1,6 +1,6 @@
 use Rattle.std.proofs.Common.{◌≡◌, ◌≤◌, length}
 use Rattle.std.specs.Io.KnownBytes.{Consumes}
-use Rattle.st_oer.specs.Tallies.{TakesTurns, device_of, tally_of}
+use Rattle.st_devices.specs.Tallies.{TakesTurns, device_of, tally_of}
 use Rattle.st_local.specs.Endings.{most_bytes}
 use Rattle.st_local.proofs.input.read_input.Given as goal
 

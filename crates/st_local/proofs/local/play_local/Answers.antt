@@ -1,5 +1,5 @@
 use Rattle.std.proofs.Common.{◌∙◌, Some}
-use Rattle.st_oer.specs.Tallies.{device_of, tally_of}
+use Rattle.st_devices.specs.Tallies.{device_of, tally_of}
 use Rattle.st_local.proofs.Stops.{delivers, delivers_part, explains_carry, input_known, on_ok, over_carry, reads_and_writes, reads_carry, turns_carry}
 use Rattle.st_local.proofs.local.play_local.Goals as goal
 

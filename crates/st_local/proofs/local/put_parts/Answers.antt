@@ -1,6 +1,6 @@
 use Rattle.std.proofs.Common.{◌≡◌, ◌∙◌, List, ℕ, ap, subst, arith}
 use Rattle.std.specs.Io.KnownBytes.{Appends}
-use Rattle.st_oer.specs.Tallies.{device_of}
+use Rattle.st_devices.specs.Tallies.{device_of}
 use Rattle.st_local.specs.Parts.{stream_at}
 use Rattle.st_local.specs.Playing.{read_on}
 use Rattle.st_local.specs.Endings.{WritesPart}

@@ -1,6 +1,6 @@
 use Rattle.std.proofs.Common.{◌≡◌}
 use Rattle.std.specs.Io.KnownBytes.{Appends}
-use Rattle.st_oer.specs.Tallies.{TakesTurns, device_of, tally_of}
+use Rattle.st_devices.specs.Tallies.{TakesTurns, device_of, tally_of}
 use Rattle.st_local.specs.Parts.{joined, stream_at}
 use Rattle.st_local.specs.Playing.{read_on}
 use Rattle.st_local.specs.Endings.{StaysFlushed}

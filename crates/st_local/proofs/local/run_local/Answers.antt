@@ -1,5 +1,5 @@
 use Rattle.std.proofs.Common.{refl, ap, arith}
-use Rattle.st_oer.specs.Tallies.{device_of, tally_of}
+use Rattle.st_devices.specs.Tallies.{device_of, tally_of}
 use Rattle.st_local.proofs.Stops.{ended_by, ended_well}
 use Rattle.st_local.proofs.local.run_local.Goals as goal
 

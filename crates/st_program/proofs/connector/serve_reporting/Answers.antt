@@ -1,4 +1,4 @@
-use Rattle.st_oer.specs.Tallies.{device_of, tally_of}
+use Rattle.st_devices.specs.Tallies.{device_of, tally_of}
 use Rattle.st_program.proofs.Telling.{table_told}
 use Rattle.st_program.proofs.connector.serve_reporting.Goals as goal
 

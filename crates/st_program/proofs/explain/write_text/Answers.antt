@@ -3,7 +3,7 @@ use Rattle.std.specs.Prelude.{Err}
 use Rattle.st_commands.specs.declared.error.Fault.{Fault}
 use Rattle.st_commands.specs.Endings.{most_turns}
 use Rattle.st_commands.proofs.Spending.{ended_by, ended_well, not_the_reader, spends_nothing, spends_writes}
-use Rattle.st_oer.specs.Tallies.{tally_of}
+use Rattle.st_devices.specs.Tallies.{tally_of}
 use Rattle.st_program.proofs.explain.write_text.Goals as goal
 
 pub returns-in-Ok-clause-written : goal.returns-in-Ok-clause-written

@@ -1,7 +1,7 @@
 use Rattle.std.proofs.Common.{◌≡◌}
 use Rattle.std.specs.Io.KnownBytes.{Consumes}
-use Rattle.st_oer.specs.Faults.{count_after}
-use Rattle.st_oer.specs.Tallies.{device_of, tally_of}
+use Rattle.st_devices.specs.Faults.{count_after}
+use Rattle.st_devices.specs.Tallies.{device_of, tally_of}
 use Rattle.st_program.proofs.input.read_whole.Given as goal
 
 abbrev pub invariant-loop : goal.invariant-loop

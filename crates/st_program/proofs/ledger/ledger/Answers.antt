@@ -1,7 +1,7 @@
 use Rattle.std.proofs.Common.{◌≡◌, List, ℕ, subst}
 use Rattle.std.specs.Io.KnownBytes.{Appends}
 use Rattle.std.proofs.lemmas.Result.{on_ok_weaker}
-use Rattle.st_oer.specs.Tallies.{device_of}
+use Rattle.st_devices.specs.Tallies.{device_of}
 use Rattle.st_program.proofs.Ledgers.{ends_printed, ends_refused}
 use Rattle.st_program.proofs.ledger.ledger.Goals as goal
 

@@ -1,5 +1,5 @@
 use Rattle.std.proofs.Common.{◌≡◌, refl}
-use Rattle.st_oer.specs.Tallies.{device_of}
+use Rattle.st_devices.specs.Tallies.{device_of}
 use Rattle.st_program.proofs.Locals.{ends_unopened}
 use Rattle.st_program.proofs.local.placed.Goals as goal
 

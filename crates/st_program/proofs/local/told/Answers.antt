@@ -1,5 +1,5 @@
 use Rattle.std.proofs.Common.{◌≡◌}
-use Rattle.st_oer.specs.Tallies.{device_of}
+use Rattle.st_devices.specs.Tallies.{device_of}
 use Rattle.st_program.proofs.Locals.{ends_by, ends_over}
 use Rattle.st_program.proofs.local.told.Goals as goal
 

@@ -1,7 +1,7 @@
 use Rattle.std.proofs.Common.{◌≡◌, List, subst, map, [], refl, inl, inr, arith}
 use Rattle.clap.specs.Words.{HasKind, Kinds, Text, kind_of}
 use Rattle.clap.specs.declared.error.kind.ErrorKind.TheVariants.{OutOfMemory}
-use Rattle.st_oer.specs.Tallies.{tally_of}
+use Rattle.st_devices.specs.Tallies.{tally_of}
 use Rattle.st_words.specs.declared.request.Request.{Request}
 use Rattle.st_words.specs.Words.{command_of, refusals}
 use Rattle.st_commands.specs.Endings.{HasEnded}

@@ -2,7 +2,7 @@ use Rattle.std.proofs.Common.{◌≡◌, ◌⊎◌, sym, subst, ◌∙◌, inl, 
 use Rattle.clap.specs.Words.{IsAmong, Kinds}
 use Rattle.clap.specs.declared.error.kind.ErrorKind.{ErrorKind}
 use Rattle.clap.specs.declared.error.kind.ErrorKind.TheVariants.{DisplayHelp, DisplayVersion, OutOfMemory}
-use Rattle.st_oer.specs.Tallies.{no_calls}
+use Rattle.st_devices.specs.Tallies.{no_calls}
 use Rattle.st_program.specs.Words.{MayShow}
 use Rattle.st_program.proofs.program.tell.Goals as goal
 

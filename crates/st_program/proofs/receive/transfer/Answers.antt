@@ -1,4 +1,4 @@
-use Rattle.st_oer.specs.Tallies.{device_of}
+use Rattle.st_devices.specs.Tallies.{device_of}
 use Rattle.st_end.specs.Seen.{totals_seen}
 use Rattle.st_program.proofs.Transfers.{received}
 use Rattle.st_program.proofs.receive.transfer.Goals as goal

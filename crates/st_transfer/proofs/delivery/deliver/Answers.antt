@@ -1,6 +1,6 @@
 use Rattle.std.proofs.Common.{◌∙◌, Err, subst}
 use Rattle.st_file.specs.Stores.{WritesPiece}
-use Rattle.st_oer.specs.Tallies.{device_of}
+use Rattle.st_devices.specs.Tallies.{device_of}
 use Rattle.st_transfer.proofs.Keeping.{kept_ended, kept_idle, kept_more, kept_past, kept_quiet, kept_why, flush_why}
 use Rattle.st_transfer.proofs.delivery.deliver.Goals as goal
 

@@ -1,5 +1,5 @@
 use Rattle.std.proofs.Common.{◌≡◌, ℕ, List, Option}
-use Rattle.st_oer.specs.Tallies.{device_of, tally_of}
+use Rattle.st_devices.specs.Tallies.{device_of, tally_of}
 use Rattle.st_end.specs.State.{EndState}
 use Rattle.st_transfer.specs.Keeping.{Kept}
 use Rattle.st_transfer.proofs.delivery.deliver.Given as goal

@@ -2,7 +2,7 @@ use Rattle.std.proofs.Common.{◌∙◌, Option, inl, inr, refl, subst}
 use Rattle.std.proofs.KnownBytes.{Keeps-refl}
 use Rattle.std.specs.Prelude.{IsSome}
 use Rattle.std.specs.declared.time.Duration.{Duration}
-use Rattle.st_oer.specs.Tallies.{device_of}
+use Rattle.st_devices.specs.Tallies.{device_of}
 use Rattle.st_transfer.proofs.Keeping.{kept_asked, kept_so_far}
 use Rattle.st_transfer.proofs.receive.receive_all.Goals as goal
 

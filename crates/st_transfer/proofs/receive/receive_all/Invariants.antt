@@ -1,6 +1,6 @@
 use Rattle.std.proofs.Common.{◌≡◌, ◌+◌}
 use Rattle.std.specs.Prelude.{IsSome, vec_len}
-use Rattle.st_oer.specs.Tallies.{device_of, tally_of}
+use Rattle.st_devices.specs.Tallies.{device_of, tally_of}
 use Rattle.st_transfer.specs.Keeping.{IsUpToDate}
 use Rattle.st_transfer.proofs.receive.receive_all.Given as goal
 

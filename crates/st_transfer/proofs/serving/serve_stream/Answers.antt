@@ -1,5 +1,5 @@
 use Rattle.std.proofs.Common.{map}
-use Rattle.st_oer.specs.Tallies.{device_of}
+use Rattle.st_devices.specs.Tallies.{device_of}
 use Rattle.st_http.specs.Exchanges.{known}
 use Rattle.st_transfer.proofs.Unanswered.{asked_why}
 use Rattle.st_transfer.proofs.serving.serve_stream.Goals as goal

@@ -3,7 +3,7 @@
 ghost use Rattle.std.specs.Prelude.{◌≡◌, ℕ, true, false, OnOk};
 ghost use Rattle.std.specs.Io.{ReadsAtMost, WritesAtMost};
 ghost use Rattle.std.specs.Io.KnownBytes.{Keeps, ReadConsumes, WriteAppends};
-ghost use Rattle.st_oer.specs.Tallies.{CountsCall, device_of, no_calls, tally_of};
+ghost use Rattle.st_devices.specs.Tallies.{CountsCall, device_of, no_calls, tally_of};
 
 use crate::tally::Tally;
 use std::io;

@@ -1,17 +1,17 @@
 -- What one call of a device did: to the bytes that are known of it, and to its tally.
 use Rattle.std.specs.Prelude.{◌≡◌, ℕ, true, false, ◌<◌, ◌≤◌, List, [], length, take, Option, Result, Ok, Err}
 use Rattle.std.specs.Io.KnownBytes.{Appends, Consumes, IsAtEnd, Keeps}
-use Rattle.st_oer.specs.Faults.{count_after}
-use Rattle.st_oer.specs.Tallies.{Completes, Fails, Interrupts}
-use Rattle.st_oer.specs.declared.tally.Tally.{Tally}
-use Rattle.st_oer.specs.declared.turn.ReadTurn.{ReadTurn}
-use Rattle.st_oer.specs.declared.turn.ReadTurn.TheVariants as read
-use Rattle.st_oer.specs.declared.turn.WriteTurn.{WriteTurn}
-use Rattle.st_oer.specs.declared.turn.WriteTurn.TheVariants as write
-use Rattle.st_oer.specs.declared.turn.FlushTurn.{FlushTurn}
-use Rattle.st_oer.specs.declared.turn.FlushTurn.TheVariants as flush
-use Rattle.st_oer.specs.declared.turn.PutError.{PutError}
-use Rattle.st_oer.specs.declared.turn.PutError.TheVariants as put
+use Rattle.st_devices.specs.Faults.{count_after}
+use Rattle.st_devices.specs.Tallies.{Completes, Fails, Interrupts}
+use Rattle.st_devices.specs.declared.tally.Tally.{Tally}
+use Rattle.st_devices.specs.declared.turn.ReadTurn.{ReadTurn}
+use Rattle.st_devices.specs.declared.turn.ReadTurn.TheVariants as read
+use Rattle.st_devices.specs.declared.turn.WriteTurn.{WriteTurn}
+use Rattle.st_devices.specs.declared.turn.WriteTurn.TheVariants as write
+use Rattle.st_devices.specs.declared.turn.FlushTurn.{FlushTurn}
+use Rattle.st_devices.specs.declared.turn.FlushTurn.TheVariants as flush
+use Rattle.st_devices.specs.declared.turn.PutError.{PutError}
+use Rattle.st_devices.specs.declared.turn.PutError.TheVariants as put
 
 -- one read into buf, which holds what was read: the bytes still to come are old before the call and new after it
 abbrev pub DidRead : Option (List ℕ) → Option (List ℕ) → Tally → Tally → List ℕ → ReadTurn → Type 0

@@ -1,7 +1,7 @@
 //! Counts of a device's I/O calls.
 
 ghost use Rattle.std.specs.Prelude.{◌≡◌};
-ghost use Rattle.st_oer.specs.Tallies.{CountsCall, no_calls};
+ghost use Rattle.st_devices.specs.Tallies.{CountsCall, no_calls};
 
 use std::io;
 use std::io::ErrorKind;

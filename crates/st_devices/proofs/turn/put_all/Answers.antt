@@ -1,8 +1,8 @@
 use Rattle.std.proofs.Common.{arith, ap, ◌≡◌, ℕ, length, take, drop, zero, suc, zero-add, refl, ◌+◌, ◌-◌, List, [], ◌∷◌, ◌++◌, ◌∙◌}
 use Rattle.std.proofs.lemmas.Grind.{common_steps}
 use Rattle.std.proofs.KnownBytes.{Appends-trans}
-use Rattle.st_oer.specs.Tallies.{device_of}
-use Rattle.st_oer.proofs.turn.put_all.Goals as goal
+use Rattle.st_devices.specs.Tallies.{device_of}
+use Rattle.st_devices.proofs.turn.put_all.Goals as goal
 
 take_sum : (i n : ℕ) (s : List ℕ) → take i s ++ take n (drop i s) ≡ take (i + n) s
 take_sum zero n s = rw zero-add refl

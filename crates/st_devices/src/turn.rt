@@ -2,8 +2,8 @@
 
 ghost use Rattle.std.specs.Prelude.{◌≡◌, ◌≤◌, length, take, IfErr, OnOk};
 ghost use Rattle.std.specs.Io.KnownBytes.{Appends};
-ghost use Rattle.st_oer.specs.Tallies.{TakesTurns, device_of, tally_of};
-ghost use Rattle.st_oer.specs.Turns.{DidFlush, DidRead, DidWrite, IsTurns, faults_after, sent};
+ghost use Rattle.st_devices.specs.Tallies.{TakesTurns, device_of, tally_of};
+ghost use Rattle.st_devices.specs.Turns.{DidFlush, DidRead, DidWrite, IsTurns, faults_after, sent};
 
 use crate::counted::Counting;
 use std::io::{ErrorKind, Read, Write};

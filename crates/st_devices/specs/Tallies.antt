@@ -3,9 +3,9 @@ use Rattle.std.specs.Prelude.{◌≡◌, ◌≢◌, ℕ, ◌-◌, ◌≤◌, tru
 use Rattle.std.specs.IoError.{error_kind}
 use Rattle.std.specs.declared.io.Error.{Error}
 use Rattle.std.specs.declared.io.ErrorKind.TheVariants.{Interrupted}
-use Rattle.st_oer.specs.Faults.{count_after}
-use Rattle.st_oer.specs.declared.counted.Counting.{Counting}
-use Rattle.st_oer.specs.declared.tally.Tally.{Tally}
+use Rattle.st_devices.specs.Faults.{count_after}
+use Rattle.st_devices.specs.declared.counted.Counting.{Counting}
+use Rattle.st_devices.specs.declared.tally.Tally.{Tally}
 
 -- the device that is wrapped
 abbrev pub device_of : {T : Type 0} → Counting T → T

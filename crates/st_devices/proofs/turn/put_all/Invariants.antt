@@ -1,7 +1,7 @@
 use Rattle.std.proofs.Common.{◌≡◌, ◌≤◌, length, take}
 use Rattle.std.specs.Io.KnownBytes.{Appends}
-use Rattle.st_oer.specs.Tallies.{TakesTurns, device_of, tally_of}
-use Rattle.st_oer.proofs.turn.put_all.Given as goal
+use Rattle.st_devices.specs.Tallies.{TakesTurns, device_of, tally_of}
+use Rattle.st_devices.proofs.turn.put_all.Given as goal
 
 abbrev pub invariant-loop-sent : goal.invariant-loop-sent
 invariant-loop-sent g l = record {

@@ -3,8 +3,8 @@
 ghost use Rattle.std.specs.Prelude.{◌≡◌, ◌↔◌, IsTrue};
 ghost use Rattle.std.specs.Io.{ReadsAtMost, WritesAtMost};
 ghost use Rattle.std.specs.Io.KnownBytes.{Keeps, ReadConsumes, WriteAppends};
-ghost use Rattle.st_oer.specs.FailAt.{FailsAlone, IsDue, device_behind, failing_call, tally_in_all};
-ghost use Rattle.st_oer.specs.Tallies.{CountsCall, device_of, no_calls, tally_of};
+ghost use Rattle.st_devices.specs.FailAt.{FailsAlone, IsDue, device_behind, failing_call, tally_in_all};
+ghost use Rattle.st_devices.specs.Tallies.{CountsCall, device_of, no_calls, tally_of};
 
 use crate::counted::{Counted, Counting};
 use crate::tally::Tally;

@@ -1,0 +1,4 @@
+pub mod Faults
+pub mod Tallies
+pub mod Turns
+pub mod FailAt
