@@ -5,8 +5,8 @@ use Rattle.std.specs.List.{fold, range_with_len}
 use Rattle.std.proofs.lemmas.Bool.{false≢true, cases_eq}
 use Rattle.std.proofs.lemmas.Bool.Decides.{nat_tests}
 use Rattle.std.proofs.lemmas.List.{length-map, length-set}
-use Rattle.st_tables.specs.Slots.{Slots, slot, with_slot}
-use Rattle.st_tables.proofs.SlotLemmas.{set_here, set_there}
+use Rattle.st_streams.specs.Slots.{Slots, slot, with_slot}
+use Rattle.st_streams.proofs.SlotLemmas.{set_here, set_there}
 use Rattle.st_frames.specs.Frames.{Known, Packet, frames_of, ConnectionClose, ConnectionNewAddress, ConnectionMaxData, ConnectionDataBlocked, StreamClose, StreamMoney, StreamMaxMoney, StreamMoneyBlocked, StreamData, StreamMaxData, StreamDataBlocked}
 use Rattle.st_frames.specs.Told.{shares}
 use Rattle.st_sender.specs.Sending.{Outgoing, Sending, new_outgoing, outgoing_at, with_outgoing, changed_at, changed}

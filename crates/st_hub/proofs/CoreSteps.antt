@@ -3,9 +3,9 @@ use Rattle.std.proofs.Common.{◌≡◌, ◌≢◌, ℕ, zero, suc, ◌+◌, ◌
 use Rattle.std.specs.Ordering.{nat_cmp}
 use Rattle.std.specs.FinMap as fmap
 use Rattle.std.proofs.lemmas.Grind.{common_steps}
-use Rattle.st_tables.specs.Table.{put_bytes}
-use Rattle.st_tables.specs.Slots.{slot, with_slot}
-use Rattle.st_tables.proofs.SlotLemmas.{slot_cases, slot_here, slot_apart, slot_within}
+use Rattle.st_streams.specs.Table.{put_bytes}
+use Rattle.st_streams.specs.Slots.{slot, with_slot}
+use Rattle.st_streams.proofs.SlotLemmas.{slot_cases, slot_here, slot_apart, slot_within}
 use Rattle.st_reassembly.specs.Held.{Held, after_read}
 use Rattle.st_reassembly.specs.Run.{run}
 use Rattle.st_sender.specs.Sending.{Sending, Outgoing, outgoing_at, with_outgoing}

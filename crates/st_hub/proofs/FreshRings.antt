@@ -5,7 +5,7 @@ use Rattle.std.proofs.lemmas.List.Sums.{sum_by-cons}
 use Rattle.std.specs.Ordering.{nat_cmp}
 use Rattle.std.specs.FinMap as fmap
 use Rattle.std.proofs.lemmas.List.{length-map}
-use Rattle.st_tables.specs.Slots.{slot}
+use Rattle.st_streams.specs.Slots.{slot}
 use Rattle.st_sender.specs.Sending.{Outgoing, outgoing_at}
 use Rattle.st_sender.specs.Refusals.{all_accepted}
 use Rattle.st_receiver.specs.Streams.{delivered_of, all_delivered}

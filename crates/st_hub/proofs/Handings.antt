@@ -3,7 +3,7 @@ use Rattle.std.proofs.Common.{◌≡◌, ◌≢◌, ℕ, ◌+◌, ◌*◌, ◌<�
 use Rattle.std.specs.Prelude.{slice_set, IsSome, IfSome, ◌↔◌}
 use Rattle.std.proofs.lemmas.List.{map-set}
 use Rattle.std.proofs.lemmas.Bool.{cases_eq}
-use Rattle.st_tables.proofs.SlotLemmas.{set_or, set_here, set_there, slot_here, slot_apart}
+use Rattle.st_streams.proofs.SlotLemmas.{set_or, set_here, set_there, slot_here, slot_apart}
 use Rattle.st_sender.specs.Sending.{outgoing_at, new_outgoing}
 use Rattle.st_receiver.specs.Streams.{incoming_at}
 use Rattle.st_queues.specs.Names.{RingId}

@@ -4,8 +4,8 @@ use Rattle.std.proofs.lemmas.List.{length-map}
 use Rattle.std.specs.FinMap as fmap
 use Rattle.st_frames.specs.Frames.{Known, ConnectionClose, ConnectionNewAddress, ConnectionMaxData, ConnectionDataBlocked, StreamClose, StreamMoney, StreamMaxMoney, StreamMoneyBlocked, StreamData, StreamMaxData, StreamDataBlocked, Packet, frames_of}
 use Rattle.st_frames.specs.Told.{shares}
-use Rattle.st_tables.specs.Slots.{Slots, slot}
-use Rattle.st_tables.proofs.SlotLemmas.{slot_cases, slot_map}
+use Rattle.st_streams.specs.Slots.{Slots, slot}
+use Rattle.st_streams.proofs.SlotLemmas.{slot_cases, slot_map}
 use Rattle.st_reassembly.specs.Held.{Held, is_over, with_byte, after_insert}
 use Rattle.st_reassembly.specs.Closing.{past_all, after_finish, after_abort}
 use Rattle.st_receiver.specs.Streams.{Receiving, Incoming, incoming_at, with_incoming, delivered_of, is_open, with_receive_max}

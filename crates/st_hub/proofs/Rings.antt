@@ -5,7 +5,7 @@ use Rattle.std.proofs.lemmas.Bool.{cases_eq}
 use Rattle.std.proofs.lemmas.List.{map-set}
 use mathlib.Core.List.{IsPrefix}
 use base.Growing.{prefix_refl, prefix_trans}
-use Rattle.st_tables.proofs.SlotLemmas.{set_here, set_there}
+use Rattle.st_streams.proofs.SlotLemmas.{set_here, set_there}
 use Rattle.st_queues.specs.WriteEnds.{taken, known}
 use Rattle.st_queues.specs.ReadEnds.{put_in, free_of}
 use Rattle.st_queues.specs.declared.items.Item.{Item}

@@ -9,7 +9,7 @@ use Rattle.st_ilp.specs.declared.error.IlpError.{IlpError}
 use Rattle.st_keys.specs.declared.error.KeyError.{KeyError}
 use Rattle.st_keys.specs.Sealed.{opened}
 use Rattle.st_frames.specs.Frames.{Known, ConnectionClose, ConnectionNewAddress, ConnectionMaxData, ConnectionDataBlocked, StreamClose, StreamMoney, StreamMaxMoney, StreamMoneyBlocked, StreamData, StreamMaxData, StreamDataBlocked, Packet, frames_of}
-use Rattle.st_tables.proofs.SlotLemmas.{slot_cases}
+use Rattle.st_streams.proofs.SlotLemmas.{slot_cases}
 use Rattle.st_sender.specs.Sending.{Sending, Outgoing, Flown, Data, Whole, Flight, Marks, new_outgoing, outgoing_at, with_outgoing, changed_at, changed}
 use Rattle.st_sender.specs.Answering.{acked_data, acked_close, after_whole_acked, after_acked, after_all_acked, landed, after_fulfilled, after_failed, Plain, after_told, after_all_told}
 use Rattle.st_receiver.specs.Streams.{Receiving}

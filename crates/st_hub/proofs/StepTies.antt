@@ -2,8 +2,8 @@
 use Rattle.std.proofs.Common.{◌≡◌, ◌≢◌, ℕ, zero, suc, ◌+◌, ◌*◌, ◌<◌, List, [], ◌∷◌, ◌++◌, map, length, refl, sym, ap, subst, ◌∙◌, arith, Ok, inl, inr, append_assoc, length-append, length-set}
 use Rattle.std.proofs.lemmas.Bool.{cases_eq}
 use Rattle.std.proofs.lemmas.List.{append-nil}
-use Rattle.st_tables.specs.Slots.{slot}
-use Rattle.st_tables.proofs.SlotLemmas.{set_or, set_here, set_there}
+use Rattle.st_streams.specs.Slots.{slot}
+use Rattle.st_streams.proofs.SlotLemmas.{set_or, set_here, set_there}
 use Rattle.st_sender.specs.Sending.{outgoing_at}
 use Rattle.st_receiver.specs.Streams.{delivered_of}
 use Rattle.st_receiver.specs.Reading as reading

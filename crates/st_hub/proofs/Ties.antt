@@ -1,6 +1,6 @@
 -- What keeps the tie of a hub's end and its rings, if nothing is moved.
 use Rattle.std.proofs.Common.{◌≡◌, ℕ, ◌+◌, ◌<◌, List, length, map, refl, sym, ap, subst, ◌∙◌, arith, Option}
-use Rattle.st_tables.specs.Slots.{slot}
+use Rattle.st_streams.specs.Slots.{slot}
 use Rattle.st_sender.specs.Sending.{Outgoing, outgoing_at}
 use Rattle.st_receiver.specs.Streams.{delivered_of}
 use Rattle.st_queues.specs.Items.{joined, delivered}

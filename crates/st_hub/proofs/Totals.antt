@@ -2,7 +2,7 @@
 use Rattle.std.proofs.Common.{◌≡◌, ℕ, suc, ◌+◌, ◌≤◌, List, [], ◌∷◌, map, length, refl, ◌∙◌, arith}
 use Rattle.std.specs.Prelude.{sum}
 use Rattle.std.proofs.lemmas.List.Sums.{sum_by-cons}
-use Rattle.st_tables.specs.Slots.{Slots, slot}
+use Rattle.st_streams.specs.Slots.{Slots, slot}
 use Rattle.st_sender.specs.Sending.{Outgoing}
 use Rattle.st_sender.specs.Refusals.{accepted_of, all_accepted}
 use Rattle.st_receiver.specs.Streams.{Incoming, delivered_of}

@@ -4,7 +4,7 @@ use Rattle.std.specs.Prelude.{slice_set, slice_index_or, Vec, MatchBool}
 use Rattle.std.proofs.lemmas.List.{map-set}
 use Rattle.std.proofs.lemmas.Bool.{cases_eq}
 use Rattle.std.proofs.lemmas.Bool.Decides.{nat_tests}
-use Rattle.st_tables.proofs.SlotLemmas.{set_here, set_there}
+use Rattle.st_streams.proofs.SlotLemmas.{set_here, set_there}
 use Rattle.st_queues.specs.Names.{RingId}
 use Rattle.st_queues.specs.WriteEnds.{taken, SameWriteEnd}
 use Rattle.st_queues.specs.ReadEnds.{put_in, SameReadEnd}

@@ -4,7 +4,7 @@ use Rattle.std.specs.declared.option.Option.{Option}
 use Rattle.std.specs.declared.option.Option.TheVariants.{None, Some}
 use Rattle.std.specs.Ordering.{nat_cmp}
 use Rattle.std.specs.FinMap.{FinMap, empty, get}
-use Rattle.st_tables.specs.Slots.{slot}
+use Rattle.st_streams.specs.Slots.{slot}
 use Rattle.st_sender.specs.Sending.{Outgoing, outgoing_at}
 use Rattle.st_sender.specs.Refusals.{accepted_of}
 use Rattle.st_receiver.specs.Streams.{delivered_of}

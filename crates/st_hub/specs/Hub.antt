@@ -1,6 +1,6 @@
 -- A hub as its contracts see it.
 use Rattle.std.specs.Prelude.{◌≡◌, ℕ, ◌<◌, List, []}
-use Rattle.st_tables.specs.Slots.{no_slots}
+use Rattle.st_streams.specs.Slots.{no_slots}
 use Rattle.st_queues.specs.declared.items.Item.{Item}
 use Rattle.st_queues.specs.declared.totals.Totals as shown
 use Rattle.st_end.specs.State.{EndState}

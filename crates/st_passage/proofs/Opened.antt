@@ -2,7 +2,7 @@
 use Rattle.std.proofs.Common.{◌≡◌, ℕ, zero, suc, ◌+◌, ◌-◌, ◌*◌, ◌<◌, ◌≤◌, Bool, true, false, List, length, length-set, map, is_some, refl, sym, ap, subst, ◌∙◌, arith, Option, None, Some, Result, Ok, inl, inr, nat_eq}
 use Rattle.std.specs.List.{range_with_len}
 use Rattle.std.proofs.lemmas.Bool.{cases_eq, cases_lt}
-use Rattle.st_tables.proofs.SlotLemmas.{slot_apart, slot_cases, slot_here}
+use Rattle.st_streams.proofs.SlotLemmas.{slot_apart, slot_cases, slot_here}
 use Rattle.st_sender.specs.Sending.{Outgoing, Sending, changed, changed_at, new_outgoing, outgoing_at, with_outgoing}
 use Rattle.st_sender.specs.Accepting.{after_clean, after_offer, after_write}
 use Rattle.st_sender.specs.Refusals.{close_refusal, offer_refusal, write_refusal}

@@ -55,8 +55,8 @@ use Rattle.st_passage.specs.Rounds.{Begins, BeginsEach, HasRoomFor, MayRun, Quie
 use Rattle.st_passage.proofs.Opening.{new_calm}
 use Rattle.st_passage.proofs.Credits.{turns_credit}
 use Rattle.st_passage.proofs.Runs.{turn_exchange, crossing_calm, crossing_turn, crossings_turns, opening_stands, passage_comes, turn_stands, turns_lower}
-use Rattle.st_tables.specs.Slots.{slot}
-use Rattle.st_tables.proofs.SlotLemmas.{slot_cases}
+use Rattle.st_streams.specs.Slots.{slot}
+use Rattle.st_streams.proofs.SlotLemmas.{slot_cases}
 use Rattle.st_sender.specs.Accepting.{after_offer}
 use Rattle.st_sender.specs.Refusals.{offer_refusal}
 use Rattle.st_end.specs.declared.role.Role.{Role}

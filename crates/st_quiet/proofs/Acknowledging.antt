@@ -6,7 +6,7 @@ use Rattle.st_frames.specs.Frames.{ConnectionClose, ConnectionDataBlocked, Conne
 use Rattle.st_sender.specs.Sending.{Outgoing, Sending, changed, changed_at, outgoing_at}
 use Rattle.st_sender.specs.Flights.{end_of, flown, highest_end}
 use Rattle.st_sender.specs.Answering.{acked_blocked, acked_close, acked_data, acked_money, acked_money_blocked, after_acked, after_all_acked}
-use Rattle.st_tables.proofs.SlotLemmas.{slot_apart, slot_here, slot_within}
+use Rattle.st_streams.proofs.SlotLemmas.{slot_apart, slot_here, slot_within}
 
 pub is_same : (j k : ℕ) → j ≡ k → nat_eq j k ≡ true
 is_same j k e = grind (arith, nat_tests)

@@ -6,7 +6,7 @@ use Rattle.std.specs.Ordering.{nat_cmp}
 use Rattle.std.proofs.lemmas.Bool.{cases_eq}
 use Rattle.std.proofs.lemmas.Bool.Decides.{nat_tests}
 use Rattle.std.proofs.lemmas.List.{length-set}
-use Rattle.st_tables.proofs.SlotLemmas.{slot_apart, slot_here}
+use Rattle.st_streams.proofs.SlotLemmas.{slot_apart, slot_here}
 use Rattle.st_sender.specs.declared.error.OutboxError.TheVariants.{AmountTooLarge}
 use Rattle.st_sender.specs.Sending.{Config, Outgoing, Sending, new_outgoing, new_sending, outgoing_at, with_outgoing}
 use Rattle.st_sender.specs.Accepting.{after_offer}

@@ -6,7 +6,7 @@ use Rattle.st_sender.specs.Sending.{Outgoing, Sending, outgoing_at}
 use Rattle.st_sender.specs.Flights.{flown, is_close}
 use Rattle.st_sender.specs.Answering.{acked_data, acked_money, after_all_acked}
 use Rattle.st_quiet.specs.Left.{all_closes_left, closes_left}
-use Rattle.st_tables.proofs.SlotLemmas.{slot_within}
+use Rattle.st_streams.proofs.SlotLemmas.{slot_within}
 use Rattle.st_quiet.proofs.Sums.{sum_below, sum_less}
 use Rattle.st_quiet.proofs.Acknowledging.{all_acked_at, all_own_acked, none_stays, own_acked}
 

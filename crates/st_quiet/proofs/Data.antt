@@ -10,7 +10,7 @@ use Rattle.st_sender.specs.Filling.{CanFly, Fills, IsFull}
 use Rattle.st_sender.specs.Answering.{after_all_acked, after_fulfilled, landed}
 use Rattle.st_quiet.specs.Quiet.{IsQuiet}
 use Rattle.st_quiet.specs.Left.{all_frames_left, frames_left}
-use Rattle.st_tables.proofs.SlotLemmas.{slot_within}
+use Rattle.st_streams.proofs.SlotLemmas.{slot_within}
 use Rattle.st_quiet.proofs.Sums.{sum_below, sum_less}
 use Rattle.st_quiet.proofs.Acknowledging.{all_acked_at, all_acked_end, all_own_acked, none_stays}
 use Rattle.st_quiet.proofs.Ends.{end_here, end_within, ends_more}

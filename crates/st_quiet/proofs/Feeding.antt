@@ -6,9 +6,9 @@ use Rattle.std.specs.List.{range_with_len}
 use Rattle.std.proofs.lemmas.Bool.{cases_Bool, cases_eq, cases_lt}
 use Rattle.std.proofs.lemmas.Bool.Decides.{nat_tests}
 use Rattle.std.proofs.lemmas.List.{length-set}
-use Rattle.st_tables.specs.Slots.{Slots, slot}
-use Rattle.st_tables.specs.Table.{put_bytes}
-use Rattle.st_tables.proofs.SlotLemmas.{slot_apart, slot_here, slot_within}
+use Rattle.st_streams.specs.Slots.{Slots, slot}
+use Rattle.st_streams.specs.Table.{put_bytes}
+use Rattle.st_streams.proofs.SlotLemmas.{slot_apart, slot_here, slot_within}
 use Rattle.st_sender.specs.declared.error.OutboxError.{OutboxError}
 use Rattle.st_sender.specs.declared.error.OutboxError.TheVariants.{Closed}
 use Rattle.st_sender.specs.Sending.{Outgoing, Sending, outgoing_at, with_outgoing, changed, changed_at}

@@ -5,7 +5,7 @@ use Rattle.std.specs.List.{list_any, range_with_len, AllByRecursion}
 use Rattle.std.proofs.Math.Nat.{div-eq_of_lt}
 use Rattle.std.proofs.lemmas.Nat.{le-div}
 use Rattle.std.proofs.lemmas.Bool.{cases_eq, cases_lt}
-use Rattle.st_tables.specs.Slots.{no_slots, slot}
+use Rattle.st_streams.specs.Slots.{no_slots, slot}
 use Rattle.st_frames.specs.Frames.{ConnectionClose, ConnectionDataBlocked, ConnectionMaxData, ConnectionNewAddress, Known, StreamClose, StreamData, StreamDataBlocked, StreamMaxData, StreamMaxMoney, StreamMoney, StreamMoneyBlocked, max_packet}
 use Rattle.st_sender.specs.Sending.{Load, Marks, Outgoing, Sending, changed_at, outgoing_at}
 use Rattle.st_sender.specs.Flights.{due_money, due_at, flight_of, flown, is_close}
@@ -15,7 +15,7 @@ use Rattle.st_sender.specs.Filling.{Fills}
 use Rattle.st_sender.specs.Answering.{after_acked, after_all_acked, after_fulfilled, landed}
 use Rattle.st_quiet.specs.Quiet.{IsQuiet}
 use Rattle.st_quiet.specs.Left.{all_closes_left, all_frames_left, all_money_left, closes_left, frames_left, money_left, prepares_left, work_left}
-use Rattle.st_tables.proofs.SlotLemmas.{slot_within}
+use Rattle.st_streams.proofs.SlotLemmas.{slot_within}
 use Rattle.st_quiet.proofs.Sums.{sum_next}
 use Rattle.st_quiet.proofs.Acknowledging.{is_same}
 use Rattle.st_quiet.proofs.Data.{data_lowers, due_is, frames_below}

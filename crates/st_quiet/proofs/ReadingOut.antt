@@ -6,8 +6,8 @@ use Rattle.std.specs.Ordering.{nat_cmp}
 use Rattle.std.proofs.lemmas.Bool.{cases_eq, cases_lt}
 use Rattle.std.proofs.lemmas.Bool.Decides.{nat_tests}
 use Rattle.std.proofs.lemmas.List.{length-set, take_all}
-use Rattle.st_tables.specs.Slots.{Slots, slot, with_slot}
-use Rattle.st_tables.proofs.SlotLemmas.{slot_cases}
+use Rattle.st_streams.specs.Slots.{Slots, slot, with_slot}
+use Rattle.st_streams.proofs.SlotLemmas.{slot_cases}
 use Rattle.st_reassembly.specs.Held.{Held, nothing_held}
 use Rattle.st_reassembly.specs.Run.{run}
 use Rattle.st_reassembly.proofs.Pointwise.{reads_after}

@@ -6,7 +6,7 @@ use Rattle.std.specs.List.{range_with_len, AllByRecursion}
 use Rattle.std.proofs.Math.Nat.{mul-div_right}
 use Rattle.std.proofs.lemmas.Bool.{cases_eq}
 use Rattle.std.proofs.lemmas.Bool.Decides.{nat_tests}
-use Rattle.st_tables.specs.Slots.{Slots, slot, with_slot}
+use Rattle.st_streams.specs.Slots.{Slots, slot, with_slot}
 use Rattle.st_frames.specs.Frames.{Known, StreamClose, StreamData, StreamMoney}
 use Rattle.st_reassembly.specs.Held.{is_over, Held}
 use Rattle.st_reassembly.specs.Inserting.{inserted}
@@ -15,7 +15,7 @@ use Rattle.st_receiver.specs.Limits.{connection_limit}
 use Rattle.st_receiver.specs.Streams.{Incoming, Receiving, all_received, fresh_incoming, incoming_at, incoming_or, is_open, may_name, opened_stream, read_of, received_of, with_incoming}
 use Rattle.st_receiver.specs.Data.{after_data, after_frame, after_frames, data_fault, frame_fault, frames_fault, is_past_connection, stream_fault, with_data}
 use Rattle.st_receiver.specs.Money.{parts, rounded, with_rest}
-use Rattle.st_tables.proofs.SlotLemmas.{slot_cases}
+use Rattle.st_streams.proofs.SlotLemmas.{slot_cases}
 use Rattle.st_quiet.proofs.Sums.{sum_next}
 
 -- no stream has more than `ends` says, and all these ends lie within the connection's limit

@@ -4,8 +4,8 @@ use Rattle.std.specs.Prelude.{is_some}
 use Rattle.std.specs.FinMap as fmap
 use Rattle.std.proofs.lemmas.Bool.{cases_lt}
 use Rattle.std.proofs.lemmas.Bool.Decides.{nat_tests}
-use Rattle.st_tables.specs.Table.{is_between, table}
-use Rattle.st_tables.proofs.Tables.{table_is}
+use Rattle.st_streams.specs.Table.{is_between, table}
+use Rattle.st_streams.proofs.Tables.{table_is}
 use Rattle.st_unacked.specs.Runs.{counted}
 use Rattle.st_unacked.proofs.Counts.{len-table}
 use Rattle.st_sender.specs.declared.error.OutboxError.{OutboxError}

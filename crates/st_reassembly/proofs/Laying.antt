@@ -5,7 +5,7 @@ use Rattle.std.specs.Option.{option_or}
 use Rattle.std.specs.List.{slice_range}
 use Rattle.std.proofs.lemmas.Bool.Decides.{nat_tests}
 use Rattle.std.proofs.lemmas.List.Edits.{get_or-between, length-between}
-use Rattle.st_tables.specs.Table.{is_between}
+use Rattle.st_streams.specs.Table.{is_between}
 use Rattle.st_reassembly.specs.Ring.{byte_at}
 
 -- one place after a gap from `first` on and before `last` was filled

@@ -4,7 +4,7 @@ use Rattle.std.specs.Prelude.{not, nat_lt, bit_and, bit_or, slice_index}
 use Rattle.std.proofs.lemmas.Bool.{cases_eq}
 use Rattle.std.proofs.lemmas.List.{get_or_default}
 use Rattle.std.proofs.lemmas.Bool.Decides.{nat_tests}
-use Rattle.st_tables.specs.Table.{is_between}
+use Rattle.st_streams.specs.Table.{is_between}
 use Rattle.st_reassembly.specs.Ring.{has_bit, is_marked}
 use Rattle.st_reassembly.proofs.Bits.{has_bit-or, has_bit-and, has_bit-not}
 

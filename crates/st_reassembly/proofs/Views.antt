@@ -7,13 +7,13 @@ use Rattle.std.specs.Ordering.{nat_cmp}
 use Rattle.std.proofs.lemmas.Bool.{cases_lt}
 use Rattle.std.proofs.lemmas.Bool.Decides.{nat_tests}
 use Rattle.st_reassembly.specs.Held.{Held, is_before, is_over, is_wanted, with_byte, after_insert, after_read}
-use Rattle.st_tables.specs.Table.{is_between, table}
+use Rattle.st_streams.specs.Table.{is_between, table}
 use Rattle.st_reassembly.specs.Ring.{byte_at, cell, IsSound}
 use Rattle.st_reassembly.specs.Run.{run, past}
 use Rattle.st_reassembly.specs.Closing.{past_all, after_finish, after_abort, is_at_end, is_spent}
 use Rattle.st_reassembly.proofs.Pointwise.{piece_at-byte_at, joins_is, reads_is}
 use Rattle.st_reassembly.proofs.Runs.{length-run, take-run, held_below, past-within}
-use Rattle.st_tables.proofs.Tables.{get-table, get-table_in, table-empty, table-inside, table_is}
+use Rattle.st_streams.proofs.Tables.{get-table, get-table_in, table-empty, table-inside, table_is}
 
 -- the model's value over what the window has at each offset, and the other fields
 abbrev pub shown_by : (ℕ → Option ℕ) → ℕ → Option ℕ → Option ℕ → Held

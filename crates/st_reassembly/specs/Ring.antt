@@ -1,7 +1,7 @@
 -- A window of 65,536 places, in which the byte at an offset lies at the remainder of the offset. A bit for each place, 64 to a word, says whether a byte is there.
 use Rattle.std.specs.Prelude.{◌≡◌, ℕ, ◌+◌, ◌-◌, ◌/◌, ◌%◌, ◌<◌, ◌≤◌, Bool, true, false, nat_eq, if◌then◌else◌, slice_index, List, length, Option, Some, None, IsSome}
 use Rattle.std.specs.Int.{bit_at}
-use Rattle.st_tables.specs.Table.{is_between}
+use Rattle.st_streams.specs.Table.{is_between}
 
 -- the byte that a chunk has at q, by tests of both its ends
 abbrev pub byte_at : ℕ → List ℕ → ℕ → Option ℕ

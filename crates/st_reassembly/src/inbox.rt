@@ -41,7 +41,7 @@ impl<A: Allocator + Copy> Model for Inbox<A> {
 
     ghost use Rattle.std.specs.Prelude.{◌+◌, ◌||◌, if◌then◌else◌, is_some, vec_capacity, Some, None};
     ghost use Rattle.st_reassembly.specs.Closing.{is_at_end};
-    ghost use Rattle.st_tables.specs.Table.{table};
+    ghost use Rattle.st_streams.specs.Table.{table};
     ghost use Rattle.st_reassembly.specs.Ring.{IsSound, cell};
 
     ghost view = { λ s. record { bytes = table (cell s.ring.bytes.items s.ring.marks.items) s.read 65536; read = s.read; end = if s.finished then Some s.top else None; aborted = s.aborted } };

@@ -1,6 +1,6 @@
 //! A mark for each of 65,536 places, 64 to a word.
 ghost use Rattle.std.specs.Prelude.{◌≡◌, ℕ, ◌<◌, ◌≤◌, ◌&&◌, ◌||◌, not, length};
-ghost use Rattle.st_tables.specs.Table.{is_between};
+ghost use Rattle.st_streams.specs.Table.{is_between};
 ghost use Rattle.st_reassembly.specs.Ring.{is_marked};
 
 use crate::words::{is_blank, lowest, part, turned};

@@ -1,7 +1,7 @@
 //! A window of places, in which the byte at an offset lies at the remainder of the offset.
 ghost use Rattle.std.specs.Prelude.{◌≡◌, ℕ, true, ◌+◌, ◌-◌, ◌^◌, ◌%◌, ◌<◌, ◌≤◌, ◌⊎◌, if◌then◌else◌, length, max, min, vec_capacity, None, nat_lt, IfOk, IsSome, slice_index};
 ghost use Rattle.std.specs.Option.{option_or};
-ghost use Rattle.st_tables.specs.Table.{is_between};
+ghost use Rattle.st_streams.specs.Table.{is_between};
 ghost use Rattle.st_reassembly.specs.Ring.{byte_at, cell, place};
 
 use crate::marks::{WORDS, mark, next_place, unmark};

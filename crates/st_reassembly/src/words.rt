@@ -1,6 +1,6 @@
 //! Bits of one word.
 ghost use Rattle.std.specs.Prelude.{◌≡◌, ℕ, ◌+◌, ◌*◌, ◌<◌, ◌≤◌, true, false, not, if◌then◌else◌, nat_lt};
-ghost use Rattle.st_tables.specs.Table.{is_between};
+ghost use Rattle.st_streams.specs.Table.{is_between};
 ghost use Rattle.st_reassembly.specs.Ring.{has_bit};
 
 /// The lowest `n` bits.

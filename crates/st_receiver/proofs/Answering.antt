@@ -2,8 +2,8 @@
 use Rattle.std.proofs.Common.{◌≡◌, ℕ, zero, suc, ◌%◌, ◌<◌, Bool, true, false, not, nat_eq, nat_le, ◌&&◌, ◌||◌, [], ◌∷◌, length, set, Option, Some, None, refl, sym, ap, arith}
 use Rattle.std.specs.Prelude.{is_some, Result, Ok, Err, IfOk, OnOk, OnErr}
 use Rattle.std.proofs.lemmas.Bool.Decides.{nat_tests}
-use Rattle.st_tables.specs.Slots.{Slots, slot}
-use Rattle.st_tables.proofs.SlotLemmas.{slot_within}
+use Rattle.st_streams.specs.Slots.{Slots, slot}
+use Rattle.st_streams.proofs.SlotLemmas.{slot_within}
 use Rattle.st_receiver.specs.Streams.{Incoming, Receiving, is_open, may_name, credited_of, incoming_at, incoming_or, with_incoming}
 
 -- a stream that is not open was credited nothing

@@ -6,8 +6,8 @@ use Rattle.std.specs.Ordering.{nat_cmp}
 use Rattle.std.specs.FinSet.{FinSet}
 use Rattle.std.proofs.lemmas.List.{length-set, get_or-set_same, get_or-set_other, get_or_read}
 use Rattle.std.proofs.lemmas.Bool.{cases_eq}
-use Rattle.st_tables.specs.Slots.{Slots, slot}
-use Rattle.st_tables.proofs.SlotLemmas.{slot_within}
+use Rattle.st_streams.specs.Slots.{Slots, slot}
+use Rattle.st_streams.proofs.SlotLemmas.{slot_within}
 use Rattle.std.proofs.lemmas.Bool.Decides.{nat_tests}
 use Rattle.st_frames.specs.Frames.{Known, frame_of, ConnectionClose, ConnectionNewAddress, ConnectionMaxData, ConnectionDataBlocked, StreamClose, StreamMoney, StreamMaxMoney, StreamMoneyBlocked, StreamData, StreamMaxData, StreamDataBlocked}
 use Rattle.st_reassembly.specs.Held.{Held}

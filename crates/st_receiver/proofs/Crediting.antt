@@ -8,8 +8,8 @@ use Rattle.st_receiver.specs.Judged.{fault_of}
 use Rattle.std.proofs.lemmas.Bool.Decides.{nat_tests}
 use Rattle.std.proofs.lemmas.Bool.{cases_eq}
 use Rattle.std.proofs.lemmas.List.{length-set}
-use Rattle.st_tables.specs.Slots.{Slots, slot}
-use Rattle.st_tables.proofs.SlotLemmas.{slot_cases, slot_here}
+use Rattle.st_streams.specs.Slots.{Slots, slot}
+use Rattle.st_streams.proofs.SlotLemmas.{slot_cases, slot_here}
 use Rattle.st_frames.specs.Frames.{Known, Packet, frames_of, ConnectionClose, ConnectionNewAddress, ConnectionMaxData, ConnectionDataBlocked, StreamClose, StreamMoney, StreamMaxMoney, StreamMoneyBlocked, StreamData, StreamMaxData, StreamDataBlocked}
 use Rattle.st_frames.specs.Told.{money_of, money_in, shares}
 use Rattle.st_reassembly.specs.Held.{Held}

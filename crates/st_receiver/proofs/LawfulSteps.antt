@@ -3,8 +3,8 @@ use Rattle.std.proofs.Common.{◌≡◌, ℕ, zero, suc, ◌+◌, ◌<◌, Bool,
 use Rattle.std.specs.Prelude.{is_some, sum, slice_index}
 use Rattle.std.proofs.lemmas.List.{length-set, length-map}
 use Rattle.std.proofs.lemmas.Bool.Decides.{nat_tests}
-use Rattle.st_tables.specs.Slots.{Slots, slot}
-use Rattle.st_tables.proofs.SlotLemmas.{slot_cases, slot_map}
+use Rattle.st_streams.specs.Slots.{Slots, slot}
+use Rattle.st_streams.proofs.SlotLemmas.{slot_cases, slot_map}
 use Rattle.st_frames.specs.Frames.{Known, Packet, frames_of, ConnectionClose, ConnectionNewAddress, ConnectionMaxData, ConnectionDataBlocked, StreamClose, StreamMoney, StreamMaxMoney, StreamMoneyBlocked, StreamData, StreamMaxData, StreamDataBlocked}
 use Rattle.st_frames.specs.Told.{shares}
 use Rattle.st_reassembly.specs.Held.{Held, is_over}

@@ -5,8 +5,8 @@ use Rattle.std.specs.List.{list_any}
 use Rattle.std.specs.FinMap.{empty}
 use Rattle.std.proofs.lemmas.Bool.Decides.{nat_tests}
 use Rattle.std.proofs.lemmas.List.{length-set}
-use Rattle.st_tables.specs.Slots.{Slots, slot}
-use Rattle.st_tables.proofs.SlotLemmas.{slot_cases, slot_map}
+use Rattle.st_streams.specs.Slots.{Slots, slot}
+use Rattle.st_streams.proofs.SlotLemmas.{slot_cases, slot_map}
 use Rattle.st_frames.specs.Frames.{Known, ConnectionClose, ConnectionNewAddress, ConnectionMaxData, ConnectionDataBlocked, StreamClose, StreamMoney, StreamMaxMoney, StreamMoneyBlocked, StreamData, StreamMaxData, StreamDataBlocked}
 use Rattle.st_reassembly.specs.Held.{Held, is_over}
 use Rattle.st_reassembly.specs.Closing.{past_all, after_finish, after_abort}

@@ -1,7 +1,7 @@
 -- A list that is written place by place.
 use Rattle.std.proofs.Common.{◌≡◌, ℕ, zero, suc, ◌+◌, ◌<◌, Bool, true, false, ◌||◌, List, [], ◌∷◌, length, map, set, get_or, Option, None, refl, sym, ap, ◌∙◌, subst, arith}
 use Rattle.std.proofs.lemmas.List.{get_or_read}
-use Rattle.st_tables.specs.Slots.{Slots}
+use Rattle.st_streams.specs.Slots.{Slots}
 use Rattle.st_receiver.specs.Streams.{Incoming}
 use Rattle.st_receiver.specs.Money.{with_credit, with_credits, is_over_max, any_over_max}
 use Rattle.st_receiver.specs.Inside.{mix}

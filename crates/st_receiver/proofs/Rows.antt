@@ -3,7 +3,7 @@ use Rattle.std.proofs.Common.{◌≡◌, ℕ, zero, suc, ◌+◌, ◌<◌, ◌�
 use Rattle.std.specs.Prelude.{slice_index}
 use Rattle.std.proofs.lemmas.List.{append-nil, append_assoc, get_or-replicate}
 use Rattle.std.specs.List.{flat_map, range_with_len, list_any}
-use Rattle.st_tables.specs.Slots.{slot}
+use Rattle.st_streams.specs.Slots.{slot}
 use Rattle.st_frames.specs.Frames.{Known, Packet, frames_of, ConnectionMaxData}
 use Rattle.st_frames.specs.Told.{names}
 use Rattle.st_receiver.specs.Streams.{Incoming, Receiving, fresh_incoming, incoming_or, incoming_at, may_name, credited_of}

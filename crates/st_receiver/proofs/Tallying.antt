@@ -4,7 +4,7 @@ use Rattle.std.specs.Prelude.{is_some, slice_index}
 use Rattle.std.specs.List.{list_any}
 use Rattle.std.specs.FinMap.{empty}
 use Rattle.std.proofs.lemmas.List.{map-set, set-get_or, length-set, length-map, ext_get_or}
-use Rattle.st_tables.specs.Slots.{Slots, slot}
+use Rattle.st_streams.specs.Slots.{Slots, slot}
 use Rattle.st_frames.specs.Frames.{Known, ConnectionClose, ConnectionNewAddress, ConnectionMaxData, ConnectionDataBlocked, StreamClose, StreamMoney, StreamMaxMoney, StreamMoneyBlocked, StreamData, StreamMaxData, StreamDataBlocked}
 use Rattle.st_reassembly.specs.Held.{Held, is_over}
 use Rattle.st_reassembly.specs.Closing.{past_all}

@@ -3,7 +3,7 @@ use Rattle.std.specs.Prelude.{◌≡◌, ◌<◌, ℕ, zero, suc, ◌+◌, Bool,
 use Rattle.std.specs.declared.option.Option.{Option}
 use Rattle.std.specs.declared.option.Option.TheVariants.{None, Some}
 use Rattle.std.specs.Option.{option_or}
-use Rattle.st_tables.specs.Slots.{slot}
+use Rattle.st_streams.specs.Slots.{slot}
 use Rattle.std.specs.Prelude.{slice_index_or, MatchResult, Result}
 use Rattle.std.specs.List.{flat_map, range_with_len}
 use Rattle.st_frames.specs.Frames.{Known, ConnectionClose, ConnectionMaxData, StreamClose, StreamMoney, StreamData}

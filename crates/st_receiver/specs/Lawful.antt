@@ -1,6 +1,6 @@
 -- What stays true of all that an end receives, whatever comes and is read.
 use Rattle.std.specs.Prelude.{◌≡◌, ℕ, false, length, Some}
-use Rattle.st_tables.specs.Slots.{slot}
+use Rattle.st_streams.specs.Slots.{slot}
 use Rattle.st_reassembly.specs.Held.{is_over}
 use Rattle.st_reassembly.specs.Closing.{past_all}
 use Rattle.st_receiver.specs.Streams.{Incoming, Receiving, all_credited}

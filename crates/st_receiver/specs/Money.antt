@@ -5,7 +5,7 @@ use Rattle.std.specs.declared.option.Option.{Option}
 use Rattle.std.specs.declared.option.Option.TheVariants.{None, Some}
 use Rattle.st_frames.specs.Frames.{Known}
 use Rattle.st_frames.specs.Told.{shares}
-use Rattle.st_tables.specs.Slots.{Slots}
+use Rattle.st_streams.specs.Slots.{Slots}
 use Rattle.st_receiver.specs.declared.reason.Reason.{Reason}
 use Rattle.st_receiver.specs.declared.reason.Reason.TheVariants.{NoShares, OverReceiveMax}
 use Rattle.st_receiver.specs.Streams.{Incoming, Receiving}

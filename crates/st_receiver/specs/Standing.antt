@@ -3,7 +3,7 @@ use Rattle.std.specs.Prelude.{◌≡◌, ◌≤◌, ℕ, Bool, true, false, ◌|
 use Rattle.std.specs.List.{list_any}
 use Rattle.std.specs.Ordering.{nat_cmp}
 use Rattle.std.specs.FinSet.{FinSet}
-use Rattle.st_tables.specs.Slots.{Slots, slot}
+use Rattle.st_streams.specs.Slots.{Slots, slot}
 use Rattle.st_frames.specs.Frames.{Known, Packet, StreamClose, StreamMoney, StreamData, frames_of}
 use Rattle.st_reassembly.specs.Held.{Held}
 use Rattle.st_receiver.specs.Streams.{Receiving}

@@ -4,7 +4,7 @@ use Rattle.std.specs.declared.option.Option.{Option}
 use Rattle.std.specs.declared.option.Option.TheVariants.{None, Some}
 use Rattle.std.specs.Ordering.{nat_cmp}
 use Rattle.std.specs.FinSet.{FinSet, empty}
-use Rattle.st_tables.specs.Slots.{Slots, no_slots, slot, with_slot}
+use Rattle.st_streams.specs.Slots.{Slots, no_slots, slot, with_slot}
 use Rattle.st_reassembly.specs.Held.{Held, nothing_held}
 
 -- one stream's incoming direction

@@ -4,7 +4,7 @@ ghost use Rattle.std.specs.Prelude.{◌≡◌, ◌≢◌, ◌<◌, ◌≤◌, �
 ghost use Rattle.st_frames.specs.Frames.{frame_of, frames_of};
 ghost use Rattle.st_frames.specs.Packets.{packet_of};
 ghost use Rattle.st_frames.specs.Seen.{seen};
-ghost use Rattle.st_tables.specs.Slots.{slot};
+ghost use Rattle.st_streams.specs.Slots.{slot};
 ghost use Rattle.st_reassembly.specs.Inserting.{inserted};
 ghost use Rattle.st_receiver.specs.Streams.{incoming_or, fresh_incoming, incoming_at, with_incoming, opened_stream};
 ghost use Rattle.st_receiver.specs.Data.{after_data, after_frame, frame_fault, after_frames, frames_fault};

@@ -1,7 +1,7 @@
 //! What an end asks of its receiving side, and the streams that it opens itself.
 
 ghost use Rattle.std.specs.Prelude.{◌≡◌, ◌<◌, ◌≤◌, ◌*◌, ◌^◌, true, length, map, sum, IfOk, OnOk, OnErr, IsOkUnless};
-ghost use Rattle.st_tables.specs.Slots.{slot};
+ghost use Rattle.st_streams.specs.Slots.{slot};
 ghost use Rattle.st_receiver.specs.Streams.{opened_stream, may_name, is_open, incoming_at, with_incoming, with_max, with_kept, with_receive_max, credited_of, delivered_of, all_delivered};
 ghost use Rattle.st_receiver.specs.Reading.{got, got_count, after_got};
 ghost use Rattle.st_receiver.specs.Decided.{got_seen};

@@ -5,7 +5,7 @@ ghost use Rattle.st_frames.specs.Packets.{packet_of};
 ghost use Rattle.st_frames.specs.Frames.{frame_of};
 ghost use Rattle.st_receiver.specs.Streams.{new_receiving, may_name, is_open};
 ghost use Rattle.st_receiver.specs.Judged.{effect};
-ghost use Rattle.st_tables.specs.Slots.{no_slots};
+ghost use Rattle.st_streams.specs.Slots.{no_slots};
 ghost use Rattle.st_receiver.specs.Decided.{IsDecision, IsPlanFor};
 
 use crate::incoming::{Incoming, Window};

@@ -4,7 +4,7 @@ ghost use Rattle.std.specs.Prelude.{◌≡◌, ◌<◌, ◌≤◌, ◌+◌, ◌*
 ghost use Rattle.st_frames.specs.Frames.{frame_of};
 ghost use Rattle.st_frames.specs.Seen.{seen};
 ghost use Rattle.st_frames.specs.Told.{shares};
-ghost use Rattle.st_tables.specs.Slots.{slot};
+ghost use Rattle.st_streams.specs.Slots.{slot};
 ghost use Rattle.st_receiver.specs.Streams.{incoming_at, credited_of};
 ghost use Rattle.st_receiver.specs.Data as taken;
 ghost use Rattle.st_receiver.specs.Money as money;

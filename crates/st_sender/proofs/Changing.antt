@@ -1,7 +1,7 @@
 -- A stream is changed at its place, and else nothing is.
 use Rattle.std.proofs.Common.{◌≡◌, ◌≢◌, ℕ, zero, suc, ◌<◌, ◌≤◌, [], ◌∷◌, length, get_or, set, arith, refl, ap, sym, ◌∙◌, Option, Some, None}
 use Rattle.std.proofs.lemmas.List.{set-get_or}
-use Rattle.st_tables.specs.Slots.{Slots, slot}
+use Rattle.st_streams.specs.Slots.{Slots, slot}
 use Rattle.st_sender.specs.Lanes.{Lane, changed_lane, changed_to}
 use Rattle.st_sender.proofs.Totals.{found_at}
 

@@ -6,7 +6,7 @@ use Rattle.std.specs.FinMap as fmap
 use Rattle.std.proofs.lemmas.Bool.{cases_eq}
 use Rattle.std.proofs.lemmas.Bool.Decides.{nat_tests}
 use Rattle.st_frames.specs.Frames.{Known, ConnectionClose, ConnectionNewAddress, ConnectionMaxData, ConnectionDataBlocked, StreamClose, StreamMoney, StreamMaxMoney, StreamMoneyBlocked, StreamData, StreamMaxData, StreamDataBlocked}
-use Rattle.st_tables.specs.Slots.{Slots, slot}
+use Rattle.st_streams.specs.Slots.{Slots, slot}
 use Rattle.st_sender.specs.Sending.{Outgoing, Data, Whole, Flown, Flight, Sending, outgoing_at}
 use Rattle.st_sender.specs.Flights.{any_frame, carries, due_at, sent_end, flying_end, highest_end, all_ends, flying_least, room_for, due_money}
 use Rattle.st_sender.specs.Due.{IsDueData, IsDueMoney, IsDueClose}
@@ -21,7 +21,7 @@ use native.Mathlib.Nat.{zero-mul, zero-div}
 use Rattle.st_sender.specs.Lanes.{Lane, due_in, out_of, outs, flying_by, flying_in, AreBooked}
 use Rattle.st_sender.specs.declared.bounds.Bounds.{Bounds}
 use Rattle.st_sender.specs.Allowed.{bounds, end_in, end_at, lane_ends, IsAllowed, IsReadyAt, NoneReady, IsFinishedAt, NoneUnit, IsRest, AreBytes, least_for}
-use Rattle.st_tables.proofs.SlotLemmas.{slot_within}
+use Rattle.st_streams.proofs.SlotLemmas.{slot_within}
 use Rattle.st_sender.proofs.Seen.{out_slot}
 use Rattle.st_sender.proofs.Sums.{sum_over, sum_same, sum_with}
 use Rattle.st_sender.proofs.Lengths.{data_rises, data_packet, close_packet, money_packet}

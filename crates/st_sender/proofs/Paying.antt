@@ -5,7 +5,7 @@ use Rattle.std.proofs.lemmas.Bool.{cases_lt, cases_eq}
 use Rattle.std.proofs.lemmas.List.Sums.{sum_by_push}
 use Rattle.std.proofs.lemmas.List.FromFn.{map-range_with_len_more}
 use Rattle.st_oer.specs.Ratios.{Ratio}
-use Rattle.st_tables.specs.Slots.{Slots}
+use Rattle.st_streams.specs.Slots.{Slots}
 use Rattle.st_sender.specs.declared.load.Payment.{Payment}
 use Rattle.st_sender.specs.Sending.{Flight}
 use Rattle.st_sender.specs.Lanes.{Lane}

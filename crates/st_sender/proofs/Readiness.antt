@@ -1,7 +1,7 @@
 -- No frame goes by the numbers.
 use Rattle.std.proofs.Common.{◌≡◌, ℕ, ◌+◌, ◌-◌, ◌<◌, ◌∙◌, true, false, arith, Option, None, Some, inl, inr, subst, sym, List}
 use Rattle.std.proofs.lemmas.Bool.{cases_lt}
-use Rattle.st_tables.specs.Slots.{Slots, slot}
+use Rattle.st_streams.specs.Slots.{Slots, slot}
 use Rattle.st_sender.specs.Sending.{Flight}
 use Rattle.st_sender.specs.Flights.{any_frame, closes}
 use Rattle.st_sender.specs.Lanes.{Lane, due_in}

@@ -2,12 +2,12 @@
 use Rattle.std.proofs.Common.{◌≡◌, ℕ, zero, suc, ◌+◌, ◌≤◌, arith, List, [], ◌∷◌, length, map, replicate, set, refl, sym, ap, subst, ◌∙◌, Option, None, Some, inl, inr, Result, Ok, Err, OnOk, OnErr}
 use Rattle.std.specs.Ordering.{nat_cmp}
 use Rattle.std.specs.FinMap as fmap
-use Rattle.st_tables.specs.Slots.{Slots, slot, with_slot}
+use Rattle.st_streams.specs.Slots.{Slots, slot, with_slot}
 use Rattle.st_sender.specs.Sending.{Outgoing, Flight, Sending, outgoing_at, changed, changed_at, with_outgoing, new_outgoing}
 use Rattle.st_sender.specs.Lanes.{Lane, on_out, changed_to, changed_lane, out_of, outs, flying_by, flying_in, AreBooked, new_lane}
 use Rattle.st_sender.specs.Landing.{AreTied}
 use Rattle.st_sender.specs.Paying.{AreFunded, fulfilled_in, offered_in, flown_money}
-use Rattle.st_tables.proofs.SlotLemmas.{slot_cases}
+use Rattle.st_streams.proofs.SlotLemmas.{slot_cases}
 
 pub on_ok : {T E : Type 0} (r : Result T E) {P Q : Type 0} → (P → Q) → OnOk r P → OnOk r Q
 on_ok (Ok x) f p = f p

@@ -2,7 +2,7 @@
 use Rattle.std.proofs.Common.{◌≡◌, ◌≢◌, ℕ, zero, suc, ◌+◌, ◌-◌, ◌<◌, ◌≤◌, List, [], ◌∷◌, map, sum, refl, ap, ◌∙◌, arith, inl, inr}
 use Rattle.std.specs.List.{range_with_len, fold}
 use Rattle.std.proofs.lemmas.Bool.{cases_eq}
-use Rattle.st_tables.specs.Slots.{Slots}
+use Rattle.st_streams.specs.Slots.{Slots}
 use Rattle.st_sender.specs.Sending.{Flight}
 use Rattle.st_sender.specs.Allowed.{end_at, lane_ends}
 use Rattle.st_sender.specs.Lanes.{Lane}

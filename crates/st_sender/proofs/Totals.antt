@@ -4,7 +4,7 @@ use Rattle.std.specs.Prelude.{nat_le}
 use Rattle.std.proofs.lemmas.Bool.Decides.{nat_tests}
 use Rattle.std.proofs.lemmas.List.{drop_all}
 use Rattle.std.proofs.Math.Seq.{drop-cons}
-use Rattle.st_tables.specs.Slots.{Slots, slot, no_slots}
+use Rattle.st_streams.specs.Slots.{Slots, slot, no_slots}
 use Rattle.st_sender.specs.Lanes.{Lane, out_of, outs}
 use Rattle.st_sender.specs.Refusals.{accepted_of, offered_of, all_accepted, all_offered}
 

@@ -2,7 +2,7 @@
 use Rattle.std.specs.Prelude.{ℕ, ◌+◌, true, false, List, length}
 use Rattle.std.specs.declared.option.Option.TheVariants.{Some}
 use Rattle.std.specs.FinMap.{empty}
-use Rattle.st_tables.specs.Table.{put_bytes}
+use Rattle.st_streams.specs.Table.{put_bytes}
 use Rattle.st_sender.specs.Sending.{Outgoing}
 
 abbrev pub after_write : List ℕ → Outgoing → Outgoing

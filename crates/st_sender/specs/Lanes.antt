@@ -5,8 +5,8 @@ use Rattle.std.specs.declared.option.Option.{Option}
 use Rattle.std.specs.declared.option.Option.TheVariants.{None, Some}
 use Rattle.std.specs.Ordering.{nat_cmp}
 use Rattle.std.specs.FinMap.{FinMap, get, empty}
-use Rattle.st_tables.specs.Slots.{Slots, slot, with_slot}
-use Rattle.st_tables.specs.Table.{put_same}
+use Rattle.st_streams.specs.Slots.{Slots, slot, with_slot}
+use Rattle.st_streams.specs.Table.{put_same}
 use Rattle.st_sender.specs.Sending.{Outgoing, Flight, new_outgoing}
 use Rattle.st_sender.specs.Flights.{carries}
 

@@ -5,7 +5,7 @@ use Rattle.std.specs.List.{AllByRecursion}
 use Rattle.std.specs.declared.option.Option.{Option}
 use Rattle.std.specs.declared.option.Option.TheVariants.{None, Some}
 use Rattle.st_oer.specs.Ratios.{Ratio}
-use Rattle.st_tables.specs.Slots.{Slots, slot}
+use Rattle.st_streams.specs.Slots.{Slots, slot}
 use Rattle.st_frames.specs.Frames.{Known, ConnectionMaxData, ConnectionDataBlocked, StreamMaxMoney, StreamMoneyBlocked, StreamMaxData, StreamDataBlocked}
 use Rattle.st_frames.specs.Written.{packet_length}
 use Rattle.st_sender.specs.declared.bounds.Bounds.{Bounds}

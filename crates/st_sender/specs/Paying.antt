@@ -4,7 +4,7 @@ use Rattle.std.specs.List.{sum_by, range_with_len, AllByRecursion}
 use Rattle.std.specs.declared.option.Option.{Option}
 use Rattle.std.specs.declared.option.Option.TheVariants.{None, Some}
 use Rattle.st_oer.specs.Ratios.{Ratio, exchanged}
-use Rattle.st_tables.specs.Slots.{Slots, slot}
+use Rattle.st_streams.specs.Slots.{Slots, slot}
 use Rattle.st_sender.specs.declared.load.Payment.{Payment}
 use Rattle.st_sender.specs.Sending.{Outgoing, Flight}
 use Rattle.st_sender.specs.Flights.{part_of}

@@ -1,7 +1,7 @@
 //! The streams by number: 65 places for the numbers 0 to 64. Place 0 stays empty.
 
 ghost use Rattle.std.specs.Prelude.{true, false, ◌≡◌, ◌≢◌, ℕ, ◌+◌, ◌<◌, ◌≤◌, ◌^◌, None, Some, length, nat_le, slice_set, ◌-◌, OnOk, OnErr, IfOk};
-ghost use Rattle.st_tables.specs.Slots.{slot, with_slot, no_slots};
+ghost use Rattle.st_streams.specs.Slots.{slot, with_slot, no_slots};
 ghost use Rattle.st_sender.specs.Accepting.{after_write, after_clean, after_stream_abort, after_offer};
 ghost use Rattle.st_sender.specs.Answering.{told_data, told_receive_max, is_settled};
 ghost use Rattle.st_sender.specs.Lanes.{changed_lane, on_out, out_of, outs, new_lane};

@@ -5,8 +5,8 @@ use Rattle.std.specs.Ordering.{nat_cmp}
 use Rattle.std.specs.FinMap as fmap
 use Rattle.std.proofs.lemmas.Bool.{cases_lt}
 use Rattle.std.proofs.lemmas.Bool.Decides.{nat_tests}
-use Rattle.st_tables.specs.Table.{is_between, table}
-use Rattle.st_tables.proofs.Tables.{get-table}
+use Rattle.st_streams.specs.Table.{is_between, table}
+use Rattle.st_streams.proofs.Tables.{get-table}
 use Rattle.st_unacked.specs.declared.run.Run.{Run}
 use Rattle.st_unacked.specs.Sent.{Sent, rows}
 use Rattle.st_unacked.specs.Runs.{status_at, is_kept, byte_at, shown_by, counted, kept_in, IsTiled}

@@ -6,8 +6,8 @@ use Rattle.std.specs.Cmp.{nat_cmp_total}
 use Rattle.std.specs.FinMap as fmap
 use Rattle.std.proofs.lemmas.Bool.{cases_lt}
 use Rattle.std.proofs.lemmas.Bool.Decides.{nat_tests}
-use Rattle.st_tables.specs.Table.{is_between, put_if, table, put_bytes}
-use Rattle.st_tables.proofs.Tables.{get-table, table_is, get-kept}
+use Rattle.st_streams.specs.Table.{is_between, put_if, table, put_bytes}
+use Rattle.st_streams.proofs.Tables.{get-table, table_is, get-kept}
 use Rattle.std.proofs.Math.Seq.{drop-cons}
 use Rattle.st_unacked.specs.declared.run.Run.{Run}
 use Rattle.st_unacked.specs.Sent.{is_by, after_acknowledged, carried}

@@ -5,8 +5,8 @@ use Rattle.std.specs.Cmp.{nat_cmp_total}
 use Rattle.std.specs.FinMap as fmap
 use Rattle.std.proofs.lemmas.Bool.{cases_lt}
 use Rattle.std.proofs.lemmas.Bool.Decides.{nat_tests}
-use Rattle.st_tables.specs.Table.{is_between, table, put_same}
-use Rattle.st_tables.proofs.Tables.{get-table_in, table-inside, get-put_same, get-kept}
+use Rattle.st_streams.specs.Table.{is_between, table, put_same}
+use Rattle.st_streams.proofs.Tables.{get-table_in, table-inside, get-put_same, get-kept}
 use Rattle.st_unacked.specs.declared.run.Run.{Run}
 use Rattle.st_unacked.specs.Sent.{Sent, is_by, after_claim, after_failed, IsFlightEnd}
 use Rattle.st_unacked.specs.Laws.{AClaimIsTakenBack}

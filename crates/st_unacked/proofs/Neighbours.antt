@@ -7,7 +7,7 @@ use Rattle.std.proofs.lemmas.Bool.{cases_lt}
 use Rattle.std.proofs.lemmas.Bool.Decides.{nat_tests}
 use Rattle.std.proofs.lemmas.List.{take_more_set}
 use Rattle.std.proofs.Math.Seq.{drop-cons, take-set-lt, get_or-take, length-take-le}
-use Rattle.st_tables.specs.Table.{is_between, table}
+use Rattle.st_streams.specs.Table.{is_between, table}
 use Rattle.st_unacked.specs.declared.run.Run.{Run}
 use Rattle.st_unacked.specs.declared.run.Status.{Status}
 use Rattle.st_unacked.specs.Sent.{is_by}

@@ -4,7 +4,7 @@ use Rattle.std.specs.Prelude.{not}
 use Rattle.std.specs.Ordering.{nat_cmp}
 use Rattle.std.specs.Cmp.{nat_cmp_total}
 use Rattle.std.specs.FinMap as fmap
-use Rattle.st_tables.proofs.Tables.{get-kept}
+use Rattle.st_streams.proofs.Tables.{get-kept}
 use Rattle.st_unacked.specs.Sent.{Sent, is_by, without_flight, after_acknowledged, after_failed}
 use Rattle.st_unacked.specs.Laws.{Answers, AcknowledgedIsPointwise, FailedIsPointwise}
 use Rattle.st_unacked.proofs.Views.{same_sent}

@@ -11,10 +11,10 @@ use Rattle.std.proofs.lemmas.Bool.Decides.{nat_tests}
 use Rattle.std.proofs.lemmas.List.{get_or_append_left, get_or-append_right, get_or-drop, length-drop}
 use Rattle.st_unacked.specs.declared.run.Run.{Run}
 use Rattle.st_unacked.specs.declared.run.Status.{Status}
-use Rattle.st_tables.specs.Table.{is_between, table}
+use Rattle.st_streams.specs.Table.{is_between, table}
 use Rattle.st_unacked.specs.Sent.{Sent, nothing_sent, due_at, is_by, after_accept, after_claim, after_acknowledged, after_failed, after_drop, IsLowestDue, IsPastDue}
 use Rattle.st_unacked.specs.Runs.{status_at, flight_of, is_kept, is_due, byte_at, flight_at, shown_by, IsTiled, flown, claimed, acknowledged_run, failed_run, dropped_run}
-use Rattle.st_tables.proofs.Tables.{get-table, get-table_in, table_is, table-inside, get-put_bytes, get-put_same, get-kept}
+use Rattle.st_streams.proofs.Tables.{get-table, get-table_in, table_is, table-inside, get-put_bytes, get-put_same, get-kept}
 
 pub same_sent : (s t : Sent) → s.unacked ≡ t.unacked → s.flying ≡ t.flying → s.accepted ≡ t.accepted → s ≡ t
 same_sent s t u f a = λ i. record { unacked = u i; flying = f i; accepted = a i }

@@ -3,7 +3,7 @@ use Rattle.std.specs.Prelude.{◌≡◌, ◌≢◌, ℕ, zero, suc, ◌+◌, ◌
 use Rattle.std.specs.Option.{option_or}
 use Rattle.st_unacked.specs.declared.run.Run.{Run}
 use Rattle.st_unacked.specs.declared.run.Status.{Status}
-use Rattle.st_tables.specs.Table.{is_between, table}
+use Rattle.st_streams.specs.Table.{is_between, table}
 use Rattle.st_unacked.specs.Sent.{Sent, is_by}
 
 -- the status of the byte at an offset: that of the first run that ends past it

@@ -2,7 +2,7 @@
 use Rattle.std.specs.Prelude.{◌≡◌, ℕ, ◌+◌, ◌-◌, ◌<◌, ◌≤◌, IsSome, Bool, true, false, not, nat_eq, List, length, Option, Some, None, is_some, is_none, if◌then◌else◌}
 use Rattle.std.specs.Ordering.{nat_cmp}
 use Rattle.std.specs.FinMap.{FinMap, empty, get, len, retain_keys}
-use Rattle.st_tables.specs.Table.{put_bytes, put_same}
+use Rattle.st_streams.specs.Table.{put_bytes, put_same}
 
 -- the byte at each offset that is accepted and neither acknowledged nor dropped; the sequence by which an offset is in flight; how many bytes were accepted
 pub record Sent : Type 0 where

@@ -1,6 +1,6 @@
 -- Calls on streams and reads, as moves.
 use Rattle.std.proofs.Common.{◌≡◌, ◌≢◌, ℕ, zero, suc, Result, Ok, Err, Bool, true, false, cond, List, [], ◌∷◌, length, take, refl, sym, ap, subst, ◌∙◌, arith, Option, None, Some, is_some}
-use Rattle.st_tables.specs.Slots.{slot, Slots, with_slot}
+use Rattle.st_streams.specs.Slots.{slot, Slots, with_slot}
 use Rattle.st_reassembly.specs.Run.{run}
 use Rattle.st_sender.specs.Sending.{Outgoing, outgoing_at, with_outgoing, changed_at}
 use Rattle.st_sender.specs.Accepting.{after_write, after_clean, after_stream_abort, after_offer}

@@ -9,7 +9,7 @@ use Rattle.std.specs.FinSet as fset
 use Rattle.std.proofs.lemmas.Bool.Decides.{nat_tests}
 use Rattle.st_frames.specs.Frames.{Known, ConnectionClose, ConnectionNewAddress, ConnectionMaxData, ConnectionDataBlocked, StreamClose, StreamMoney, StreamMaxMoney, StreamMoneyBlocked, StreamData, StreamMaxData, StreamDataBlocked, Packet, frames_of}
 use Rattle.st_frames.specs.Told.{shares, money_in}
-use Rattle.st_tables.specs.Slots.{Slots, slot, with_slot}
+use Rattle.st_streams.specs.Slots.{Slots, slot, with_slot}
 use Rattle.st_receiver.specs.Streams.{Receiving, Incoming, incoming_at, with_incoming, credited_of}
 use Rattle.st_receiver.specs.Data.{with_data, after_frame, after_frames, frames_fault}
 use Rattle.st_receiver.specs.Money.{rounded, with_rest, parts, with_credit, with_credits, is_over_max, any_over_max, money_fault, after_money}

@@ -6,7 +6,7 @@ use Rattle.std.specs.FinMap as fmap
 use Rattle.std.proofs.lemmas.Bool.{cases_eq}
 use Rattle.st_frames.specs.Frames.{Known, ConnectionClose, ConnectionNewAddress, ConnectionMaxData, ConnectionDataBlocked, StreamClose, StreamMoney, StreamMaxMoney, StreamMoneyBlocked, StreamData, StreamMaxData, StreamDataBlocked, Packet, frames_of}
 use Rattle.st_frames.specs.Told.{shares}
-use Rattle.st_tables.specs.Slots.{Slots, slot}
+use Rattle.st_streams.specs.Slots.{Slots, slot}
 use Rattle.st_reassembly.specs.Held.{Held, is_wanted, with_byte, after_insert, after_read, is_over}
 use Rattle.st_reassembly.specs.Closing.{past_all, after_finish, after_abort}
 use Rattle.st_receiver.specs.Streams.{Receiving, Incoming, fresh_incoming, incoming_at, incoming_or, with_incoming, opened_stream}
@@ -16,7 +16,7 @@ use Rattle.st_receiver.specs.Closes.{with_close, after_close, after_closes, with
 use Rattle.st_receiver.specs.Judged.{effect}
 use Rattle.st_world.specs.Sides.{IsPrefixOf}
 use Rattle.st_world.proofs.Maps.{got_insert, got_retain, Within}
-use Rattle.st_tables.proofs.SlotLemmas.{slot_cases, slot_here, slot_apart, slot_map}
+use Rattle.st_streams.proofs.SlotLemmas.{slot_cases, slot_here, slot_apart, slot_map}
 
 -- a stream as it would open
 abbrev pub fresh_at : Receiving → ℕ → Incoming

@@ -8,13 +8,13 @@ use Rattle.st_frames.specs.Frames.{Known, ConnectionClose, ConnectionNewAddress,
 use Rattle.st_reassembly.specs.Held.{Held, after_read}
 use Rattle.st_reassembly.specs.Run.{IsRun}
 use Rattle.st_sender.specs.Sending.{Sending, Outgoing, Flown, Data, Whole, outgoing_at, with_outgoing, changed_at, changed}
-use Rattle.st_tables.specs.Table.{put_bytes}
+use Rattle.st_streams.specs.Table.{put_bytes}
 use Rattle.st_sender.specs.Accepting.{after_write}
 use Rattle.st_sender.specs.Flights.{any_frame, carries}
 use Rattle.st_sender.specs.Due.{IsDue, IsDueData}
 use Rattle.st_sender.specs.Answering.{acked_data, acked_close, after_whole_acked, after_acked, after_all_acked, after_told, after_all_told}
 use Rattle.st_world.proofs.Maps.{got_insert, got_retain, Within, got_append, got_after, prefix_append, prefix_more, within_take}
-use Rattle.st_tables.proofs.SlotLemmas.{slot_cases}
+use Rattle.st_streams.proofs.SlotLemmas.{slot_cases}
 use Rattle.st_world.proofs.DataReceived.{held-read, read-read, StreamFine, FrameFine, FramesFine}
 
 -- one outgoing stream: what is kept for it was written there, at its offset

@@ -16,7 +16,7 @@ use Rattle.st_world.specs.Sides.{Side, Client, Server, other}
 use Rattle.st_world.specs.State.{World, ledger_at, with_ledger, Put, lane_at, end_at, with_end}
 use Rattle.st_world.specs.Ledgers.{Ledger, ledger_or}
 use Rattle.st_world.proofs.Maps.{get_here, get_apart, Within, got_append}
-use Rattle.st_tables.proofs.SlotLemmas.{slot_here, slot_apart, slot_within}
+use Rattle.st_streams.proofs.SlotLemmas.{slot_here, slot_apart, slot_within}
 use Rattle.st_keys.specs.Keys.{DerivedKeys}
 use Rattle.st_world.proofs.DataReceived.{StreamFine, RecvFine, recv-read, FrameFine, FramesFine}
 use Rattle.st_world.proofs.DataSent.{OutFine, SendFine, out-write, stream-write, stream-read}

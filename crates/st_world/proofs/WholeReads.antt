@@ -1,7 +1,7 @@
 -- Closes: reads and calls on a stream.
 use Rattle.std.proofs.Common.{◌≡◌, ℕ, true, false, ◌||◌, List, [], ◌∷◌, ◌++◌, length, refl, sym, ap, subst, ◌∙◌, arith, Option, None, Some, inl, inr, is_some, append-nil, length-append, ◌≤◌}
 use Rattle.st_keys.specs.Keys.{DerivedKeys}
-use Rattle.st_tables.specs.Slots.{slot}
+use Rattle.st_streams.specs.Slots.{slot}
 use Rattle.st_reassembly.specs.Held.{after_read}
 use Rattle.st_sender.specs.Sending.{Outgoing, outgoing_at, with_outgoing}
 use Rattle.st_receiver.specs.Streams.{Receiving, Incoming, incoming_at, incoming_or}
@@ -9,7 +9,7 @@ use Rattle.st_receiver.specs.Reading.{Got, Bytes, Nothing, End, Aborted}
 use Rattle.st_world.specs.Sides.{Side, Client, Server, other, Both, at, put, IsPrefixOf}
 use Rattle.st_world.specs.State.{World, Party, ledger_at, with_ledger, end_at, with_end}
 use Rattle.st_world.specs.Ledgers.{Ledger, got}
-use Rattle.st_tables.proofs.SlotLemmas.{slot_here, slot_apart, slot_within}
+use Rattle.st_streams.proofs.SlotLemmas.{slot_here, slot_apart, slot_within}
 use Rattle.st_world.proofs.DataReceived.{fresh_at, StreamFine, incoming_here}
 use Rattle.st_world.proofs.DataSent.{OutFine}
 use Rattle.st_world.proofs.DataWays.{DataFine, ledger_here}

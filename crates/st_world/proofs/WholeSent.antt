@@ -11,9 +11,9 @@ use Rattle.st_ilp.specs.declared.error.IlpError.{IlpError}
 use Rattle.st_keys.specs.declared.error.KeyError.{KeyError}
 use Rattle.st_keys.specs.Sealed.{opened}
 use Rattle.st_frames.specs.Frames.{Known, ConnectionClose, ConnectionNewAddress, ConnectionMaxData, ConnectionDataBlocked, StreamClose, StreamMoney, StreamMaxMoney, StreamMoneyBlocked, StreamData, StreamMaxData, StreamDataBlocked, Packet, frames_of}
-use Rattle.st_tables.specs.Slots.{slot}
+use Rattle.st_streams.specs.Slots.{slot}
 use Rattle.st_sender.specs.Sending.{Sending, Outgoing, Flight, Flown, Data, Whole, new_outgoing, outgoing_at, with_outgoing, changed_at, changed}
-use Rattle.st_tables.specs.Table.{is_between, put_bytes}
+use Rattle.st_streams.specs.Table.{is_between, put_bytes}
 use Rattle.st_sender.specs.Due.{IsDue, IsDueClose}
 use Rattle.st_sender.specs.Answering.{acked_data, acked_close, after_whole_acked, after_acked, after_all_acked, landed, after_fulfilled, after_failed, Plain, after_told, after_all_told}
 use Rattle.st_receiver.specs.Streams.{Receiving, Incoming, incoming_at, incoming_or, with_incoming, is_open, may_name, with_receive_max}
@@ -27,7 +27,7 @@ use Rattle.st_end.specs.Receiving.{opened_too, all_marked, prepare_in}
 use Rattle.st_world.specs.Ledgers.{Ledger}
 use Rattle.st_world.specs.State.{EndEntry}
 use Rattle.st_world.proofs.Maps.{get_here, get_apart}
-use Rattle.st_tables.proofs.SlotLemmas.{slot_cases}
+use Rattle.st_streams.proofs.SlotLemmas.{slot_cases}
 use Rattle.st_keys.specs.Keys.{DerivedKeys}
 use Rattle.st_world.proofs.DataReceived.{fresh_at, FramesFine}
 use Rattle.st_world.proofs.EndSteps.{opened_keeps, marked_keeps, opening_either}

@@ -1,6 +1,6 @@
 use Rattle.std.proofs.Common.{◌≡◌, ℕ, ◌*◌, ◌<◌, ◌&&◌, length}
 use Rattle.std.specs.Prelude.{not, nat_lt}
-use Rattle.st_tables.specs.Table.{is_between}
+use Rattle.st_streams.specs.Table.{is_between}
 use Rattle.st_reassembly.specs.Ring.{is_marked}
 use Rattle.st_reassembly.proofs.marks.unmark.Given as goal
 

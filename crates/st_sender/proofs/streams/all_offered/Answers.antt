@@ -1,6 +1,6 @@
 use Rattle.std.proofs.Common.{◌∙◌, refl, arith, ap}
 use Rattle.std.specs.declared.option.Option.{Option}
-use Rattle.st_tables.specs.Slots.{Slots}
+use Rattle.st_streams.specs.Slots.{Slots}
 use Rattle.st_sender.specs.Lanes.{Lane, outs, out_of}
 use Rattle.st_sender.specs.Refusals.{offered_of, all_offered}
 use Rattle.st_sender.proofs.Totals.{total_next, total_whole}

@@ -1,6 +1,6 @@
 use Rattle.std.proofs.Common.{ap, None}
 use Rattle.st_reassembly.specs.Ring.{cell}
-use Rattle.st_tables.proofs.Tables.{table-empty}
+use Rattle.st_streams.proofs.Tables.{table-empty}
 use Rattle.st_reassembly.proofs.inbox.Inbox.new.Goals as goal
 
 pub returns-clause-empty : goal.returns-clause-empty

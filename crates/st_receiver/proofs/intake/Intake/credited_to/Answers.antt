@@ -1,5 +1,5 @@
 use Rattle.std.proofs.Common.{◌∙◌, sym}
-use Rattle.st_tables.specs.Slots.{slot}
+use Rattle.st_streams.specs.Slots.{slot}
 use Rattle.st_receiver.proofs.Answering.{none_credited}
 use Rattle.st_receiver.proofs.intake.Intake.credited_to.Goals as goal
 

@@ -3,7 +3,7 @@ use Rattle.std.specs.declared.option.Option.{Option}
 use Rattle.std.specs.declared.option.Option.TheVariants.{None}
 use Rattle.std.proofs.lemmas.List.{length-set}
 use Rattle.std.specs.Prelude.{is_some}
-use Rattle.st_tables.specs.Slots.{slot}
+use Rattle.st_streams.specs.Slots.{slot}
 use Rattle.st_receiver.specs.Standing.{Standing}
 use Rattle.st_receiver.specs.Streams.{Incoming, is_open, with_max}
 use Rattle.st_receiver.proofs.Applying.{changed, drawn_length, open_within}

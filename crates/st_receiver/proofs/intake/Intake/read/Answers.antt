@@ -1,7 +1,7 @@
 use Rattle.std.proofs.Common.{◌∙◌, ◌||◌, Some, ap}
 use Rattle.std.proofs.lemmas.List.{length-set}
 use Rattle.std.specs.Prelude.{is_some}
-use Rattle.st_tables.specs.Slots.{slot}
+use Rattle.st_streams.specs.Slots.{slot}
 use Rattle.st_receiver.specs.Standing.{Standing}
 use Rattle.st_receiver.specs.Streams.{Incoming, is_open}
 use Rattle.st_receiver.specs.Reading.{got, after_get}

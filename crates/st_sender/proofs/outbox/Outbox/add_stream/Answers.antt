@@ -1,5 +1,5 @@
 use Rattle.std.proofs.Common.{refl, sym, ap, ◌∙◌}
-use Rattle.st_tables.specs.Slots.{slot}
+use Rattle.st_streams.specs.Slots.{slot}
 use Rattle.st_sender.specs.Sending.{Sending, outgoing_at}
 use Rattle.st_sender.proofs.Seen.{out_slot, not_open, opened_kept, seen_opened}
 use Rattle.st_sender.proofs.outbox.Outbox.add_stream.Goals as goal

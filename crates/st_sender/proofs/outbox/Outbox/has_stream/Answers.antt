@@ -1,5 +1,5 @@
 use Rattle.std.proofs.Common.{refl, sym, ap, ◌∙◌}
-use Rattle.st_tables.specs.Slots.{slot}
+use Rattle.st_streams.specs.Slots.{slot}
 use Rattle.st_sender.specs.Lanes.{out_of}
 use Rattle.st_sender.proofs.Seen.{seen_at, not_open}
 use Rattle.st_sender.proofs.outbox.Outbox.has_stream.Goals as goal

@@ -3,7 +3,7 @@ use Rattle.st_sender.specs.Accepting.{after_offer}
 use Rattle.st_sender.specs.Lanes.{on_out}
 use Rattle.st_sender.specs.Refusals.{refusal_at, is_closed, too_much, Answers, all_offered}
 use Rattle.st_sender.specs.Sending.{Outgoing}
-use Rattle.st_tables.specs.Slots.{Slots}
+use Rattle.st_streams.specs.Slots.{Slots}
 use Rattle.std.specs.declared.option.Option.{Option}
 use Rattle.st_sender.proofs.Seen.{on_ok, on_err, either_way, seen_changed, seen_same, refused_as, kept, unchanged}
 use Rattle.st_sender.proofs.outbox.Outbox.offer.Goals as goal

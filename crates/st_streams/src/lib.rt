@@ -1,4 +1,5 @@
-//! Laws of finite maps from numbers, for crates that store a map in arrays. There is no code here.
+//! Tables with a place for each stream, and laws of finite maps from numbers, for crates that store a map in arrays. There
+//! is no code here.
 //!
 //! Such a crate says which value is at each number (`table` in `specs/Table.antt`), and what its calls do to the
 //! map, value by value. The lemmas of `proofs/Tables.antt` connect the two. By the laws, a table is the one map with

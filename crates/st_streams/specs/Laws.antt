@@ -2,7 +2,7 @@
 use Rattle.std.specs.Prelude.{◌≡◌, ◌↔◌, ℕ, ◌+◌, ◌-◌, if◌then◌else◌, List, length, slice_index, Option, Some, None}
 use Rattle.std.specs.Ordering.{nat_cmp}
 use Rattle.std.specs.FinMap.{FinMap, get}
-use Rattle.st_tables.specs.Table.{is_between, table, put_bytes, put_same}
+use Rattle.st_streams.specs.Table.{is_between, table, put_bytes, put_same}
 
 abbrev pub TableIsPointwise : Type 0
 TableIsPointwise = (f : ℕ → Option ℕ) (first n : ℕ) (m : FinMap nat_cmp ℕ) → ((q : ℕ) → get m q ≡ (if is_between first (first + n) q then f q else None)) ↔ (m ≡ table f first n)

@@ -1,6 +1,6 @@
 -- What a place of a list has after a place was set, and a stream in its slot.
 use Rattle.std.proofs.Common.{◌≡◌, ◌≢◌, ℕ, zero, suc, ◌<◌, List, [], ◌∷◌, map, length, set, get_or, refl, sym, ap, arith, Option, None, Some, ◌⊎◌, inl, inr}
-use Rattle.st_tables.specs.Slots.{Slots, slot, with_slot}
+use Rattle.st_streams.specs.Slots.{Slots, slot, with_slot}
 
 pub set_or : {A : Type 0} (xs : List A) (i : ℕ) (x d : A) (l : ℕ) → ((l ≡ i) × (get_or (set xs i x) i d ≡ x)) ⊎ (get_or (set xs i x) l d ≡ get_or xs l d)
 set_or [] i x d l = inr refl

@@ -6,7 +6,7 @@ use Rattle.std.specs.FinMap as map
 use Rattle.std.proofs.lemmas.Bool.{cases_eq}
 use Rattle.std.proofs.lemmas.Bool.Decides.{nat_tests}
 use Rattle.std.specs.Prelude.{◌↔◌, List, [], ◌∷◌, length, slice_index, ◌-◌}
-use Rattle.st_tables.specs.Table.{is_between, put_if, table, put_bytes, put_same}
+use Rattle.st_streams.specs.Table.{is_between, put_if, table, put_bytes, put_same}
 
 same_key : (q k : ℕ) (b o : Option ℕ) → (q ≡ k → o ≡ b) → o ≡ cond (eq_by_cmp nat_cmp q k) b o
 same_key q k b o h = grind (arith, nat_tests)

@@ -1,6 +1,6 @@
 //! Laws of the definitions: each map is determined by its value at each number.
 
-ghost use Rattle.st_tables.specs.Laws.{BytesArePutPointwise, SameIsPutPointwise, TableIsPointwise};
+ghost use Rattle.st_streams.specs.Laws.{BytesArePutPointwise, SameIsPutPointwise, TableIsPointwise};
 
 /// The table of a function is the one map that has the function's values at the numbers of the table, and no others.
 pub fn table_is_pointwise()

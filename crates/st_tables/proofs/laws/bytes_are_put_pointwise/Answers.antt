@@ -1,5 +1,0 @@
-use Rattle.st_tables.proofs.Tables.{get-put_bytes}
-use Rattle.st_tables.proofs.laws.bytes_are_put_pointwise.Goals as goal
-
-pub returns : goal.returns
-returns c = λ m offset xs q. get-put_bytes xs m offset q

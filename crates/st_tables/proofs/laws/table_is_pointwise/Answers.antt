@@ -1,5 +1,0 @@
-use Rattle.st_tables.proofs.Tables.{table_is_its_values}
-use Rattle.st_tables.proofs.laws.table_is_pointwise.Goals as goal
-
-pub returns : goal.returns
-returns c = table_is_its_values
