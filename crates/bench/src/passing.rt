@@ -1,8 +1,9 @@
 //! A hop, and Prepares that arrive there.
 
 use crate::packets::{fulfill, long_address, prefixes, prepares, prepares_nowhere};
-use st_hop::{Account, HopState, Outcome, Route, Verdict};
+use st_hop::{Account, HopState, Route, Verdict};
 use st_ilp::Moment;
+use st_links::Outcome;
 use std::alloc::Global;
 
 /// The terms of each account. Fewer than 2^63 Prepares of one unit do not meet the limit.

@@ -12,8 +12,8 @@ use Rattle.sqlite_trees.specs.Objects.{catalog_tree, version_tree}
 use Rattle.sqlite_trees.specs.declared.store.Shape.{Shape}
 use Rattle.sqlite_trees.specs.declared.store.Shape.TheVariants.{Table}
 use Rattle.sqlite_trees.specs.View.{View, IsShaped, OnlyWrites, SetsTree}
-use Rattle.st_booking.specs.declared.booking.Booking.{Booking}
-use Rattle.st_booking.specs.declared.booking.Proof.{Proof}
+use Rattle.st_links.specs.declared.booking.Booking.{Booking}
+use Rattle.st_links.specs.declared.booking.Proof.{Proof}
 use Rattle.st_books.specs.declared.balance.Amounts.{Amounts}
 use Rattle.st_books.specs.declared.balance.Tally.{Tally}
 use Rattle.st_books.specs.Payments.{count_of, name_at, ArePayments}

@@ -6,7 +6,7 @@ use Rattle.sqlite_trees.specs.View.{View, IsClean, IsStorableRow}
 use Rattle.sqlite_trees.specs.declared.store.Store.{Ghosts}
 use Rattle.st_books.specs.declared.balance.Amounts.{Amounts}
 use Rattle.st_books.specs.declared.error.BooksError.{BooksError}
-use Rattle.st_booking.specs.declared.booking.Booking.{Booking}
+use Rattle.st_links.specs.declared.booking.Booking.{Booking}
 use Rattle.st_books.specs.Errors.{number}
 use Rattle.st_books.specs.declared.balance.Payment.{Payment}
 use Rattle.st_books.specs.Sums.{nothing, amounts_at, booked, IsOfNoAccount, IsAbove, Overflows, ForOne}

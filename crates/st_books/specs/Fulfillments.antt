@@ -3,8 +3,8 @@ use Rattle.std.specs.Prelude.{◌≡◌, ℕ, ℤ, pos, ◌+◌, List, [], ◌�
 use Rattle.std.specs.List.{AllByRecursion}
 use Rattle.sqlite_value.specs.declared.value.Value.TheVariants.{Null, Int, Text, Blob}
 use Rattle.sqlite_value.specs.Order.{Row, column}
-use Rattle.st_booking.specs.declared.booking.Booking.{Booking}
-use Rattle.st_booking.specs.declared.booking.Proof.{Proof}
+use Rattle.st_links.specs.declared.booking.Booking.{Booking}
+use Rattle.st_links.specs.declared.booking.Proof.{Proof}
 use Rattle.st_books.specs.Payments.{count_of, name_at}
 
 -- their table comes after the view

@@ -6,8 +6,8 @@ use Rattle.st_books.specs.declared.error.BooksError.{BooksError}
 use Rattle.st_books.specs.declared.error.BooksError.TheVariants.{NoBooks, Taken, Device, Full, Damaged, Shut, NoAccount, TooMuch, NameTaken, BadName, NoMemory, TooLittle}
 use Rattle.st_books.specs.declared.balance.Payment.{Payment}
 use Rattle.st_books.specs.Payments.{payment_line, name_at}
-use Rattle.st_booking.specs.declared.booking.Booking.{Booking}
-use Rattle.st_booking.specs.declared.booking.Proof.{Proof}
+use Rattle.st_links.specs.declared.booking.Booking.{Booking}
+use Rattle.st_links.specs.declared.booking.Proof.{Proof}
 use Rattle.st_books.specs.Fulfillments.{proof_row, proof_tree}
 use Rattle.st_books.specs.Table.{line, payment_tree}
 

@@ -8,7 +8,7 @@ use Rattle.sqlite_trees.specs.declared.store.Store.{Ghosts}
 use Rattle.sqlite_trees.specs.declared.store.Shape.TheVariants.{Table}
 use Rattle.st_books.specs.declared.balance.Amounts.{Amounts}
 use Rattle.st_books.specs.declared.balance.Tally.{Tally}
-use Rattle.st_booking.specs.declared.booking.Booking.{Booking}
+use Rattle.st_links.specs.declared.booking.Booking.{Booking}
 use Rattle.st_books.specs.Fulfillments.{proof_tree, last_id}
 use Rattle.st_books.specs.Trail.{Trail, tally_of, with_bookings}
 use Rattle.st_books.specs.Table.{AreBooks, lines, payment_tree}

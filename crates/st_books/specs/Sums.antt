@@ -1,7 +1,7 @@
 -- What bookings make of the sums of accounts.
 use Rattle.std.specs.Prelude.{◌≡◌, ◌⊎◌, ℕ, ◌+◌, ◌^◌, ◌≤◌, List, length, take, fold, slice_set, slice_get, slice_index_or, Some}
 use Rattle.st_books.specs.declared.balance.Amounts.{Amounts}
-use Rattle.st_booking.specs.declared.booking.Booking.{Booking}
+use Rattle.st_links.specs.declared.booking.Booking.{Booking}
 
 abbrev pub nothing : Amounts
 nothing = record { claims = 0; dues = 0 }

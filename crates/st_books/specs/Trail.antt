@@ -2,7 +2,7 @@
 -- prove claims.
 use Rattle.std.specs.Prelude.{ℕ, ◌+◌, max, List, [], length, fold}
 use Rattle.sqlite_value.specs.Order.{Row}
-use Rattle.st_booking.specs.declared.booking.Booking.{Booking}
+use Rattle.st_links.specs.declared.booking.Booking.{Booking}
 use Rattle.st_books.specs.declared.balance.Payment.{Payment}
 use Rattle.st_books.specs.declared.balance.Tally.{Tally}
 use Rattle.st_books.specs.Payments.{latest_in, with_payment}

@@ -23,7 +23,7 @@ use sqlite_store::FileStore;
 use sqlite_trees::store::Alter;
 use sqlite_value::row::Row;
 use sqlite_value::value::Bytes;
-use st_booking::{Booking, Keeper};
+use st_links::{Booking, Keeper};
 use std::alloc::Global;
 use std::marker::Model;
 

@@ -18,7 +18,7 @@ use crate::table::counted;
 use sqlite_trees::store::{Alter, Direction, Store};
 use sqlite_value::row::Row;
 use sqlite_value::value::{Bytes, ValueRef};
-use st_booking::Proof;
+use st_links::Proof;
 
 /// The id after this one.
 fn next_id(last: u64) -> Result<i64, BooksError>

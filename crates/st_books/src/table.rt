@@ -21,7 +21,7 @@ use crate::filing::file_proof;
 use sqlite_trees::store::Alter;
 use sqlite_value::row::Row;
 use sqlite_value::value::{Bytes, ValueRef};
-use st_booking::Booking;
+use st_links::Booking;
 
 /// A count as SQLite keeps it, or `None` above 2^63 - 1.
 pub(crate) fn counted(count: u64) -> Option<i64>

@@ -1,7 +1,7 @@
 //! What arrives over a link: at which end or hop.
 
 ghost use Rattle.std.specs.Prelude.{◌≡◌, ◌+◌, ◌<◌, length, OnErr, IfOk};
-ghost use Rattle.st_hop.specs.Seen.{outcome_seen};
+ghost use Rattle.st_links.specs.Outcomes.{outcome_seen};
 ghost use Rattle.st_world.specs.Sides as sides;
 ghost use Rattle.st_world.specs.State.{nth, far, near};
 ghost use Rattle.st_world.specs.Events as events;
@@ -11,8 +11,8 @@ ghost use Rattle.st_nodes.specs.Seen.{way_seen, told_seen};
 ghost use Rattle.st_chain.specs.Left.{in_world, MeetsAt};
 
 use crate::trace::Trace;
-use st_hop::Outcome;
 use st_ilp::Moment;
+use st_links::Outcome;
 use st_nodes::{Link, Put, Side, Told, Way, copy_given, copy_put};
 use std::alloc::{AllocError, Allocator};
 

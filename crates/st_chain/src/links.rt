@@ -1,13 +1,13 @@
 //! What arrives over a link, at an end or at a hop.
 
 ghost use Rattle.std.specs.Prelude.{◌≡◌, ◌+◌, ◌<◌, IfOk, OnErr, length};
-ghost use Rattle.st_hop.specs.Seen.{outcome_seen};
+ghost use Rattle.st_links.specs.Outcomes.{outcome_seen};
 ghost use Rattle.st_world.specs.Sides.{Client, Server};
 ghost use Rattle.st_nodes.specs.Seen.{way_seen, told_seen};
 ghost use Rattle.st_chain.specs.Places.{LinkSends, LinkMet, LinkBack, HopsMet, HopsBack};
 
-use st_hop::Outcome;
 use st_ilp::Moment;
+use st_links::Outcome;
 use st_nodes::{
     Link, Node, Party, Put, Told, Way, arrive_at, arrive_at_end, send_from, settle_at,
     settle_at_end,

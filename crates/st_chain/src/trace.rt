@@ -1,7 +1,7 @@
 //! The result of a run: both ends and the hops, what was written and read, and which Prepares were answered.
 
 ghost use Rattle.std.specs.Prelude.{◌≡◌, ◌≢◌, ◌≤◌, ◌<◌, ◌+◌, ◌||◌, false, length, OnErr, IfOk};
-ghost use Rattle.st_hop.specs.Seen.{outcome_seen};
+ghost use Rattle.st_links.specs.Outcomes.{outcome_seen};
 ghost use Rattle.st_world.specs.Sides as sides;
 ghost use Rattle.st_world.specs.State.{AtEnd, AtHop};
 ghost use Rattle.st_world.specs.Events as events;
@@ -13,8 +13,8 @@ ghost use Rattle.st_chain.specs.Left.{in_world, lacks, MeetsAt};
 use crate::links::{
     back_to_end, back_to_hop_down, back_to_hop_up, meet_end, meet_hop_down, meet_hop_up, send_on,
 };
-use st_hop::Outcome;
 use st_ilp::Moment;
+use st_links::Outcome;
 use st_nodes::{
     Ledgers, Link, Node, Party, Put, Side, Told, Way, abort_at, close_at, offer_at, open_at,
     raise_at, read_at, write_at,

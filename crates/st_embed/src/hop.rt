@@ -3,14 +3,16 @@
 ghost use Rattle.std.specs.Prelude.{◌≡◌, ◌↔◌, ◌<◌, ◌++◌, ◌∷◌, [], ℕ, pos, length, map, nat_lt, Some, None, OnOk, OnErr, IfOk, IfErr, IsTrue, IsOk, IsOkUnless, IsErrOf, MatchBool, MatchOption};
 ghost use Rattle.st_hop.specs.declared.ticket.Open as open_ticket;
 ghost use Rattle.st_hop.specs.Books.{AreBooks, WhyNotRestored, restored};
-ghost use Rattle.st_hop.specs.Seen.{way_seen, outcome_seen};
+ghost use Rattle.st_links.specs.Outcomes.{outcome_seen};
+ghost use Rattle.st_hop.specs.Seen.{way_seen};
 ghost use Rattle.st_hop.specs.Settling.{is_booked};
 ghost use Rattle.st_hop.specs.Table.{is_table, new_hop};
 ghost use Rattle.st_hop.specs.Tickets.{IsAmong};
 ghost use Rattle.st_embed.specs.Hops.{IsNewHop, IsSameHop, IsTicket, HasNoTicket, Arrives, IsSettled, IsAbandoned, IsRestarted, IsToldBooking};
 
-use st_hop::{Account, HopError, HopState, Open, Outcome, Route, Ticket, Verdict, books_go_on};
+use st_hop::{Account, HopError, HopState, Open, Route, Ticket, Verdict, books_go_on};
 use st_ilp::Moment;
+use st_links::Outcome;
 use std::alloc::{AllocError, Global};
 use std::marker::Model;
 
@@ -56,7 +58,7 @@ impl KeptTicket {
     fn books(&self, outcome: &Outcome<Global>, now: Moment) -> bool
         ensures { result ≡ is_booked self.now (outcome_seen outcome.now) now }
     {
-        outcome.books(&self.ticket, now)
+        self.ticket.is_booked_by(outcome, now)
     }
 
     fn read(&self) -> Open

@@ -496,7 +496,7 @@ rows =
     } ∷
     record {
       number = 68;
-      home = codes "st_desk";
+      home = codes "st_hop_desk";
       variant = codes "DeskError::NoShareLeft";
       places = [];
       cause = codes "63 threads have shares of this desk." ∷ [];
@@ -552,7 +552,7 @@ rows =
     } ∷
     record {
       number = 73;
-      home = codes "st_desk";
+      home = codes "st_hop_desk";
       variant = codes "DeskError::Stranger";
       places = [];
       cause = codes "The ticket is not open at this desk. Nothing changes." ∷ [];
@@ -568,7 +568,7 @@ rows =
     } ∷
     record {
       number = 74;
-      home = codes "st_desk";
+      home = codes "st_hop_desk";
       variant = codes "DeskError::MissingShare";
       places = [];
       cause = codes "Not every share of the desk that is out was given back. The shares are returned." ∷ [];
@@ -584,7 +584,7 @@ rows =
     } ∷
     record {
       number = 75;
-      home = codes "st_desk";
+      home = codes "st_hop_desk";
       variant = codes "DeskError::NoMemory";
       places = [];
       cause = codes "Out of memory. A connector answers the request with HTTP status 500." ∷ [];

@@ -323,7 +323,7 @@ const FAULT_67: &str = "Numbers of the library:
 ";
 
 const FAULT_68: &str = "Numbers of the library:
-68  st_desk DeskError::NoShareLeft
+68  st_hop_desk DeskError::NoShareLeft
     63 threads have shares of this desk.
     What to do: Use at most 63 threads.
 68  st_hub HubError::NoShareLeft
@@ -359,7 +359,7 @@ const FAULT_72: &str = "Numbers of the library:
 ";
 
 const FAULT_73: &str = "Numbers of the library:
-73  st_desk DeskError::Stranger
+73  st_hop_desk DeskError::Stranger
     The ticket is not open at this desk. Nothing changes.
     What to do: Settle each ticket once, at the desk that gave it.
 73  st_hub HubError::Stranger
@@ -368,7 +368,7 @@ const FAULT_73: &str = "Numbers of the library:
 ";
 
 const FAULT_74: &str = "Numbers of the library:
-74  st_desk DeskError::MissingShare
+74  st_hop_desk DeskError::MissingShare
     Not every share of the desk that is out was given back. The shares are returned.
     What to do: Give back the shares of every thread.
 74  st_hub HubError::MissingShare
@@ -377,7 +377,7 @@ const FAULT_74: &str = "Numbers of the library:
 ";
 
 const FAULT_75: &str = "Numbers of the library:
-75  st_desk DeskError::NoMemory
+75  st_hop_desk DeskError::NoMemory
     Out of memory. A connector answers the request with HTTP status 500.
     What to do: Give the process more memory; the sender retries.
 75  st_hub HubError::NoMemory

@@ -30,6 +30,6 @@ pub use laws::{
 };
 pub use refusal::Refusal;
 pub use route::{NextHop, Route};
-pub use settling::{Closing, Outcome};
+pub use settling::Closing;
 pub use ticket::{Open, Ticket};
 pub use verdict::Verdict;

@@ -1,13 +1,11 @@
 //! A desk with one share out, and what it answers.
 ghost use Rattle.std.specs.Prelude.{◌≡◌};
 
-use st_booking::{Booking, Proof};
-use st_desk::{
-    AccountShares, Books, Clock, Fate, HopDesk, Link, LinkFault, NoBooks, Owed, Served, serve,
-};
 use st_devices::Counted;
 use st_hop::{Account, HopError, HopState, Route};
+use st_hop_desk::{AccountShares, Books, Fate, HopDesk, NoBooks, Owed, Served, serve};
 use st_ilp::Moment;
+use st_links::{Booking, Clock, Link, LinkFault, Proof};
 use std::alloc::{Allocator, Global};
 use std::marker::Brand;
 use std::process::Abort;

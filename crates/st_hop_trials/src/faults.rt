@@ -2,9 +2,10 @@
 ghost use Rattle.std.specs.Prelude.{◌≡◌};
 
 use crate::desks::{FULFILL, Neighbour, PREPARE, T01, gathered, new_hop, shares_of, stopped_clock};
-use st_desk::{AccountShares, FailLink, HopDesk, NoBooks, Owed, serve};
 use st_devices::Counted;
 use st_hop::HopState;
+use st_hop_desk::{AccountShares, HopDesk, NoBooks, Owed, serve};
+use st_links::FailLink;
 use std::alloc::Global;
 use std::marker::Brand;
 use std::process::Abort;

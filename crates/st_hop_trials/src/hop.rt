@@ -1,7 +1,8 @@
 //! The hop of the examples: `example.c`, with account 0 for `example`, and account 1 for `example.b`.
 
-use st_hop::{Account, HopError, HopState, Outcome, Route, Ticket, Verdict};
+use st_hop::{Account, HopError, HopState, Route, Ticket, Verdict};
 use st_ilp::Moment;
+use st_links::Outcome;
 use std::alloc::Allocator;
 use std::process::Abort;
 

@@ -3,8 +3,8 @@ ghost use Rattle.std.specs.Prelude.{◌≡◌};
 
 use crate::desks::{FULFILL, Neighbour, PREPARE, T00, T01, new_hop, shares_of, stopped_clock};
 use refusing::Refusing;
-use st_desk::{AccountShares, DeskError, HopDesk, NoBooks, Served, serve};
 use st_hop::{HopError, HopState};
+use st_hop_desk::{AccountShares, DeskError, HopDesk, NoBooks, Served, serve};
 use std::alloc::{Allocator, Global};
 use std::marker::Brand;
 use std::process::Abort;

@@ -2,10 +2,11 @@
 ghost use Rattle.std.specs.Prelude.{◌≡◌};
 
 use crate::desks::{FULFILL, PREPARE, gathered, new_hop, shares_of, stopped_clock};
-use st_desk::{AccountShares, HopDesk, Link, LinkFault, NoBooks, Owed, serve};
 use st_devices::Counted;
 use st_hop::HopState;
+use st_hop_desk::{AccountShares, HopDesk, NoBooks, Owed, serve};
 use st_ilp::Moment;
+use st_links::{Link, LinkFault};
 use std::alloc::Global;
 use std::marker::Brand;
 use std::process::Abort;

@@ -2,8 +2,8 @@
 
 ghost use Rattle.std.specs.Prelude.{⊤};
 
-use st_booking::{Booking, Keeper};
-use st_desk::{Fate, Till, deposit, refused_at};
+use st_hop_desk::{Fate, Till, deposit, refused_at};
+use st_links::{Booking, Keeper};
 use std::alloc::Global;
 use std::process::Abort;
 use std::sync::Wait;

@@ -4,7 +4,7 @@ use Rattle.std.specs.Prelude.{Option, Result, flat_map}
 use Rattle.std.proofs.lemmas.Bool.{false≢true}
 use Rattle.std.proofs.lemmas.List.{map-append, append-nil, length-append}
 use Rattle.std.proofs.lemmas.Grind.{flat_map-append}
-use Rattle.st_desk.specs.declared.link.LinkFault.{LinkFault}
+use Rattle.st_links.specs.declared.link.LinkFault.{LinkFault}
 use Rattle.st_end.specs.State.{EndState}
 use Rattle.st_end.specs.Sending.{Goes}
 use Rattle.st_sender.specs.Stops.{blocked_at}

@@ -2,7 +2,7 @@
 use Rattle.std.specs.Prelude.{◌≡◌, ◌⊎◌, ℕ, ℤ, true, false, List, Option, Some, None, Result, Ok, Err}
 use Rattle.st_end.specs.State.{EndState}
 use Rattle.st_end.specs.Totals.{settled}
-use Rattle.st_desk.specs.declared.link.LinkFault.{LinkFault}
+use Rattle.st_links.specs.declared.link.LinkFault.{LinkFault}
 use Rattle.st_hub.specs.Steps.{Flows}
 use Rattle.st_hub.specs.Hub.{Hub, with_core}
 use Rattle.st_hub.specs.Stalls.{Does, IsStalled}

@@ -8,8 +8,8 @@ use Rattle.st_sender.specs.declared.notice.Blocked.{Blocked}
 use Rattle.st_end.specs.declared.flight.Open.{Open}
 use Rattle.st_end.specs.State.{EndState}
 use Rattle.st_end.specs.Receiving.{Received, received}
-use Rattle.st_desk.specs.declared.link.LinkFault.{LinkFault}
-use Rattle.st_desk.specs.declared.link.LinkFault.TheVariants.{NoMemory}
+use Rattle.st_links.specs.declared.link.LinkFault.{LinkFault}
+use Rattle.st_links.specs.declared.link.LinkFault.TheVariants.{NoMemory}
 
 pub record Sent : Type 0 where
   pub flight : Open

@@ -6,7 +6,7 @@ use Rattle.st_sender.specs.Stops.{blocked_at}
 use Rattle.st_end.specs.declared.flight.Open.{Open}
 use Rattle.st_end.specs.State.{EndState}
 use Rattle.st_end.specs.Sending.{Goes}
-use Rattle.st_desk.specs.declared.link.LinkFault.{LinkFault}
+use Rattle.st_links.specs.declared.link.LinkFault.{LinkFault}
 use Rattle.st_hub.specs.Begins.{EndsAt, bytes_back}
 use Rattle.st_hub.specs.Causes.{Cause, cause_of}
 use Rattle.st_hub.specs.Told.{Event, waits_of, fails_of}

@@ -1,7 +1,7 @@
 //! Why an exchange brought no Fulfill, and at which limit an end waits, for an observer of the workers.
 
 ghost use Rattle.std.specs.Prelude.{◌≡◌, ⊤};
-ghost use Rattle.st_hop.specs.Seen.{outcome_seen};
+ghost use Rattle.st_links.specs.Outcomes.{outcome_seen};
 ghost use Rattle.st_hub.specs.Causes.{cause_of, cause_with, end_after};
 ghost use Rattle.st_hub.specs.Hub.{with_core};
 ghost use Rattle.st_hub.specs.Seen.{cause_seen};
@@ -10,7 +10,7 @@ ghost use Rattle.st_hub.specs.Told.{Event, Waits, Fails};
 use crate::hub::HubState;
 use crate::turns::Turn;
 use st_end::Failed;
-use st_hop::Outcome;
+use st_links::Outcome;
 use st_queues::HubName;
 use st_sender::Blocked;
 use std::alloc::Allocator;

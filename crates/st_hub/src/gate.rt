@@ -3,11 +3,11 @@
 ghost use Rattle.std.specs.Prelude.{◌≡◌, ◌≤◌, ◌<◌, ◌+◌, ◌-◌, ◌&&◌, true, false, not, IfSome, MatchOption};
 ghost use Rattle.std.specs.Duration.{as_nanos};
 ghost use Rattle.std.specs.Time.{instant_nanos};
-ghost use Rattle.st_hop.specs.Seen.{outcome_seen};
+ghost use Rattle.st_links.specs.Outcomes.{outcome_seen};
 ghost use Rattle.st_hub.specs.Gates.{is_temporary};
 
-use st_hop::Outcome;
 use st_ilp::{Answer, read_answer};
+use st_links::Outcome;
 use std::alloc::Allocator;
 use std::time::{Clock, Duration, Instant};
 

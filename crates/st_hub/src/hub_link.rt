@@ -5,10 +5,10 @@ ghost use Rattle.st_hub.specs.Turns.{AnswersOver};
 
 use crate::bench::Bench;
 use crate::turns::CreditShare;
-use st_desk::{Clock, Link, LinkFault};
 use st_devices::Counted;
 use st_end::Received;
 use st_ilp::Moment;
+use st_links::{Clock, Link, LinkFault};
 use st_queues::HubName;
 use std::alloc::Allocator;
 use std::sync::Wait;

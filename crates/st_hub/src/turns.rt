@@ -1,7 +1,7 @@
 //! The calls of a hub for threads that send Prepares, and for those that receive them.
 
 ghost use Rattle.std.specs.Prelude.{◌≡◌, ◌≢◌, ◌+◌, ◌<◌, true, false, not, sum, vec_len, is_some, OnErr, IfOk, IfErr, IfSome, IsOkUnless, MatchBool, MatchOption, pos, ◌+ℤ◌};
-ghost use Rattle.st_hop.specs.Seen.{outcome_seen};
+ghost use Rattle.st_links.specs.Outcomes.{outcome_seen};
 ghost use Rattle.st_ilp.specs.Moments.{IsMoment};
 ghost use Rattle.st_sender.specs.Stops.{blocked_at};
 ghost use Rattle.st_end.specs.Sending as sending;
@@ -17,8 +17,8 @@ ghost use Rattle.st_hub.specs.declared.error.HubError.TheVariants.{NoShareLeft, 
 use crate::error::HubError;
 use crate::hub::{HubState, publish};
 use st_end::{EndError, EndState, Flight, Received};
-use st_hop::Outcome;
 use st_ilp::Moment;
+use st_links::Outcome;
 use st_queues::HubName;
 use st_sender::Blocked;
 use std::alloc::Allocator;

@@ -1,7 +1,7 @@
 //! The threads that send for an end.
 
 ghost use Rattle.std.specs.Prelude.{◌≡◌, ℕ, List, true, is_some, IfSome, MatchBool, None, ⊤};
-ghost use Rattle.st_hop.specs.Seen.{outcome_seen};
+ghost use Rattle.st_links.specs.Outcomes.{outcome_seen};
 ghost use Rattle.st_end.specs.State.{EndState};
 ghost use Rattle.st_hub.specs.Begins.{Begins, FindsAt, Finds, FindsSome, Exchanged};
 ghost use Rattle.st_hub.specs.Causes.{cause_of};
@@ -15,10 +15,9 @@ use crate::causes::{Cause, Observer, close_turn};
 use crate::gate::is_temporary;
 use crate::hub::HubState;
 use crate::turns::{Step, Turn};
-use st_desk::{Clock, Link};
 use st_devices::Counted;
-use st_hop::Outcome;
 use st_ilp::Moment;
+use st_links::{Clock, Link, Outcome};
 use st_queues::{Gauge, GaugeSeat, HubName};
 use std::alloc::Allocator;
 use std::sync::atomic::Ordering;

@@ -2,12 +2,12 @@
 ghost use Rattle.std.specs.Prelude.{◌≡◌, IfOk};
 ghost use Rattle.st_hub.specs.Hub.{IsNew};
 
-use st_desk::Clock;
 use st_devices::Counted;
 use st_end::{EndError, EndState, Role};
 use st_hub::Ivs;
 use st_ilp::Moment;
 use st_keys::Keys;
+use st_links::Clock;
 use st_oer::is_address;
 use st_sender::EndConfig;
 use std::alloc::{Allocator, Global};

@@ -1,10 +1,10 @@
 //! An answer that is lost.
 use crate::ends::{Counting, stopped_clock};
 use crate::hubs::{Locked, Trial, credited, offer, run, share_of, work_on};
-use st_desk::{Link, LinkFault};
 use st_devices::Counted;
 use st_hub::{CreditShare, HubLink};
 use st_ilp::Moment;
+use st_links::{Link, LinkFault};
 use st_queues::{GaugeSeat, HubName};
 use std::alloc::Global;
 use std::process::Abort;

@@ -2,10 +2,10 @@
 use crate::ends::{Counting, stopped_clock};
 use crate::hubs::{Locked, Trial, credited, gathered, offer, run, share_of, work_on};
 use crate::threads::{Scene, run_threaded};
-use st_desk::{Link, LinkFault};
 use st_devices::Counted;
 use st_hub::{CreditShare, HubLink, HubState, WorkEnd};
 use st_ilp::Moment;
+use st_links::{Link, LinkFault};
 use st_queues::{GaugeSeat, HubName};
 use std::alloc::Global;
 use std::process::Abort;

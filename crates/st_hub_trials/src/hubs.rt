@@ -4,9 +4,9 @@ ghost use Rattle.st_queues.specs.Lanes.{ring_at};
 ghost use Rattle.st_hub.specs.Hub.{IsNew};
 
 use crate::ends::{Counting, client, server, stopped_clock};
-use st_desk::Link;
 use st_end::EndState;
 use st_hub::{Bench, CreditShare, HubState, Observer, Unwatched, WorkEnd, Worker, work};
+use st_links::Link;
 use st_queues::{Gauge, GaugeSeat, HubName, Rings, StreamWriter};
 use std::alloc::{Allocator, Global};
 use std::marker::Brand;

@@ -1,10 +1,10 @@
 //! Until when an answer is of use, and a Prepare that arrives too late.
 use crate::ends::{Counting, clock_at, stopped_clock};
 use crate::hubs::{Locked, Trial, credited, offer, run, share_of, work_on};
-use st_desk::{Link, LinkFault};
 use st_devices::Counted;
 use st_hub::{CreditShare, HubLink};
 use st_ilp::{Moment, read_prepare};
+use st_links::{Link, LinkFault};
 use st_queues::{GaugeSeat, HubName};
 use std::alloc::Global;
 use std::process::Abort;

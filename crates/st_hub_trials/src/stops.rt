@@ -1,10 +1,10 @@
 //! Tries after a temporary Reject.
 use crate::ends::Counting;
 use crate::hubs::{Locked, Trial, offer, run, work_on};
-use st_desk::{Link, LinkFault};
 use st_devices::Counted;
 use st_hub::WorkEnd;
 use st_ilp::Moment;
+use st_links::{Link, LinkFault};
 use st_queues::{GaugeSeat, HubName};
 use std::alloc::Global;
 use std::process::Abort;

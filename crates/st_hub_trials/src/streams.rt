@@ -1,9 +1,8 @@
 //! Each stream of a connection, and each writer of a stream.
 use crate::ends::{moment, stopped_clock};
 use crate::hubs::{Locked, Trial, further, open, pump, run, share_of};
-use st_desk::Link;
-use st_hop::Outcome;
 use st_hub::{Bench, HubLink, HubState, Turn};
+use st_links::{Link, Outcome};
 use st_queues::{GaugeSeat, Got, HubName, StreamReader, StreamWriter};
 use std::alloc::Global;
 use std::process::Abort;

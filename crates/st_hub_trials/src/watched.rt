@@ -1,11 +1,11 @@
 //! What a worker reports of its exchanges.
 use crate::ends::{Counting, stopped_clock};
 use crate::hubs::{Locked, Trial, offer, run, share_of, work_watched};
-use st_desk::{Link, LinkFault};
 use st_devices::Counted;
 use st_end::{Failed, FailedKind};
 use st_hub::{HubLink, Observer};
 use st_ilp::Moment;
+use st_links::{Link, LinkFault};
 use st_queues::{GaugeSeat, HubName};
 use st_sender::Blocked;
 use std::alloc::Global;

@@ -9,8 +9,8 @@ use Rattle.std.proofs.lemmas.Slice.Eq.{bytes_eq-Decides}
 use Rattle.st_hop.specs.declared.ticket.Open.{Open}
 use Rattle.st_hop.specs.Hop.{held_for, due_for}
 use Rattle.st_hop.specs.Lawful.{IsNamed}
-use Rattle.st_booking.specs.declared.booking.Booking.{Booking}
-use Rattle.st_booking.specs.declared.booking.Proof.{Proof}
+use Rattle.st_links.specs.declared.booking.Booking.{Booking}
+use Rattle.st_links.specs.declared.booking.Proof.{Proof}
 use Rattle.st_books.specs.declared.balance.Amounts.{Amounts}
 use Rattle.st_books.specs.Sums.{nothing, amounts_at, with_claim, with_due, claimed, booked_one, booked}
 use Rattle.st_books.specs.Table.{AreDistinct}

@@ -9,8 +9,8 @@ use Rattle.st_hop.specs.Books.{AreBooks, restored}
 use Rattle.st_hop.specs.Hop.{Hop, Way, held_for, due_for, last_next}
 use Rattle.st_hop.specs.Runs.{Act, run, fulfilled}
 use Rattle.st_hop.specs.Table.{is_table, new_hop}
-use Rattle.st_booking.specs.declared.booking.Booking.{Booking}
-use Rattle.st_booking.specs.declared.booking.Proof.{Proof}
+use Rattle.st_links.specs.declared.booking.Booking.{Booking}
+use Rattle.st_links.specs.declared.booking.Proof.{Proof}
 use Rattle.st_books.specs.declared.balance.Amounts.{Amounts}
 use Rattle.st_books.specs.declared.balance.Side.{Side}
 use Rattle.st_books.specs.declared.balance.Side.TheVariants.{Claims, Dues}

@@ -1,7 +1,7 @@
 -- The accounts of a table at their places in the books.
 use Rattle.std.specs.Prelude.{◌≡◌, ◌⊎◌, ℕ, List, Bool, length, map, slice_index_or, None, Some, slice_get, if◌then◌else◌}
 use Rattle.sqlite_trees.specs.declared.store.Store.{Ghosts}
-use Rattle.st_booking.specs.declared.booking.Booking.{Booking}
+use Rattle.st_links.specs.declared.booking.Booking.{Booking}
 use Rattle.st_books.specs.declared.error.BooksError.TheVariants.{NoMemory}
 use Rattle.st_books.specs.Errors.{number}
 use Rattle.st_books.specs.Standing.{Kept}

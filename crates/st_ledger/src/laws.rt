@@ -5,7 +5,7 @@ ghost use Rattle.std.specs.List.{AllByRecursion};
 ghost use Rattle.st_hop.specs.declared.ticket.Open.{Open};
 ghost use Rattle.st_hop.specs.Lawful.{IsNamed};
 ghost use Rattle.st_hop.specs.Hop.{held_for, due_for};
-ghost use Rattle.st_booking.specs.declared.booking.Proof.{Proof};
+ghost use Rattle.st_links.specs.declared.booking.Proof.{Proof};
 ghost use Rattle.st_books.specs.declared.balance.Amounts.{Amounts};
 ghost use Rattle.st_books.specs.Sums.{booked, nothing};
 ghost use Rattle.st_books.specs.declared.balance.Side.TheVariants.{Claims, Dues};

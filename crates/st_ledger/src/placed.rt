@@ -4,8 +4,8 @@ ghost use Rattle.std.specs.Prelude.{◌≡◌, IfOk, map};
 ghost use Rattle.st_ledger.specs.Placed.{CommitsPlaced, KeepsPlaced, in_books, place_at};
 
 use sqlite_trees::store::Alter;
-use st_booking::{Booking, Keeper};
 use st_books::{Books, BooksError};
+use st_links::{Booking, Keeper};
 use std::alloc::{AllocError, Global};
 use std::marker::Model;
 

@@ -2,8 +2,8 @@
 
 ghost use Rattle.std.specs.Prelude.{◌≡◌, ◌⊎◌};
 
-use st_booking::{Booking, Keeper};
 use st_books::BooksError;
+use st_links::{Booking, Keeper};
 use std::alloc::{AllocError, Global};
 use std::fs::{Files, Metadata};
 use std::marker::Model;

@@ -5,8 +5,8 @@ use Rattle.std.specs.Ordering.{int_eq}
 use Rattle.std.specs.declared.time.Duration.{Duration}
 use Rattle.std.specs.declared.io.ErrorKind.{ErrorKind}
 use Rattle.std.specs.declared.io.ErrorKind.TheVariants.{ConnectionRefused, TimedOut}
-use Rattle.st_desk.specs.declared.link.LinkFault.{LinkFault}
-use Rattle.st_desk.specs.declared.link.LinkFault.TheVariants.{Device, Peer, NoMemory}
+use Rattle.st_links.specs.declared.link.LinkFault.{LinkFault}
+use Rattle.st_links.specs.declared.link.LinkFault.TheVariants.{Device, Peer, NoMemory}
 use Rattle.st_http.specs.declared.error.HttpError.{HttpError}
 use Rattle.st_http.specs.declared.error.HttpError.TheVariants as http
 use Rattle.st_link.specs.declared.cause.LinkCause.{LinkCause}

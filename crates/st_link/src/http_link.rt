@@ -1,7 +1,7 @@
 //! A link to a neighbour by ILP over HTTP.
 
 ghost use Rattle.std.specs.Prelude.{◌≡◌, true, IfErr, IfOk, IsErrOf, IsTrue, OnErr, OnOk, None, Some};
-ghost use Rattle.st_desk.specs.declared.link.LinkFault.TheVariants.{Device};
+ghost use Rattle.st_links.specs.declared.link.LinkFault.TheVariants.{Device};
 ghost use Rattle.std.specs.Duration.{as_nanos};
 ghost use Rattle.st_http.specs.Texts as texts;
 ghost use Rattle.st_link.specs.Links.{IsTimeUntil, caused_fault, fault_of, share};
@@ -12,10 +12,10 @@ ghost use Rattle.st_devices.specs.Faults.{Rose};
 use crate::buffered::Buffered;
 use crate::cause::{LinkCause, Unreached, is_out_of_descriptors};
 use crate::timed::{Timed, deadline_in, left_until};
-use st_desk::{Link, LinkFault};
 use st_devices::{Counted, Counting};
 use st_http::{HttpError, exchange};
 use st_ilp::Moment;
+use st_links::{Link, LinkFault};
 use std::alloc::{AllocError, Allocator, Global};
 use std::io;
 use std::io::{Read, Write};

@@ -2,7 +2,7 @@
 
 ghost use Rattle.std.specs.Prelude.{◌≡◌, ◌<◌, ℕ, [], ◌∷◌, OnErr, IfOk, None, Some, MatchBool, IsOkUnless, IsErrOf, map, length, nat_eq, nat_lt, slice_index, if◌then◌else◌};
 ghost use Rattle.indexmap.specs.IndexMap.{get, spare};
-ghost use Rattle.st_hop.specs.Seen.{outcome_seen};
+ghost use Rattle.st_links.specs.Outcomes.{outcome_seen};
 ghost use Rattle.st_hop.specs.Seen.{way_seen as hop_way_seen};
 ghost use Rattle.st_hop.specs.Table.{is_table, new_hop};
 ghost use Rattle.st_nodes.specs.Seen.{way_seen, told_seen};
@@ -13,8 +13,9 @@ use crate::lane::{Given, Lane, Put, mark_taken};
 use crate::side::Way;
 use crate::told::Told;
 use indexmap::IndexMap;
-use st_hop::{Account, HopError, HopState, Outcome, Route, Ticket, Verdict, settlements_book};
+use st_hop::{Account, HopError, HopState, Route, Ticket, Verdict, settlements_book};
 use st_ilp::Moment;
+use st_links::Outcome;
 use std::alloc::{AllocError, Allocator};
 use std::hash::{BuildHasherDefault, FoldHasher};
 use std::marker::Model;
@@ -237,7 +238,7 @@ pub fn settle_at<A: Allocator + Copy>(
     settlements_book();
     node.state.is_lawful();
     let open = ticket.read();
-    let booked = outcome.books(&ticket, now);
+    let booked = ticket.is_booked_by(&outcome, now);
     let bytes = node.state.settle(ticket, outcome, now);
     let entry = HopEntry {
         incoming: open.incoming,

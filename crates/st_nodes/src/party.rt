@@ -2,7 +2,7 @@
 
 ghost use Rattle.std.specs.Prelude.{◌≡◌, ◌≢◌, ◌<◌, ℕ, true, false, OnErr, IfOk, IfSome, IsNone, MatchOption, Some, None, slice_get, nat_eq, bytes_eq, is_ok, ◌&&◌, IsOkUnless};
 ghost use Rattle.std.specs.List.{remove};
-ghost use Rattle.st_hop.specs.Seen.{outcome_seen};
+ghost use Rattle.st_links.specs.Outcomes.{outcome_seen};
 ghost use Rattle.st_oer.specs.Address.{is_address};
 ghost use Rattle.st_end.specs.State.{new_end};
 ghost use Rattle.st_end.specs.Calls.{has_stream};
@@ -20,9 +20,9 @@ use crate::entry::{EndEntry, amount_in, is_fulfill};
 use crate::lane::{Given, Lane, Put, mark_taken};
 use crate::told::Told;
 use st_end::{EndError, EndState, Flight, Open, Role, Totals};
-use st_hop::Outcome;
 use st_ilp::Moment;
 use st_keys::Keys;
+use st_links::Outcome;
 use st_sender::EndConfig;
 use std::alloc::{AllocError, Allocator};
 use std::marker::Model;

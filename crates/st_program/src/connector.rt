@@ -21,13 +21,13 @@ use crate::reports::{EachMinute, Renews, Reports, TableFile};
 use crate::table_file::{Unread, bytes_of, table_in};
 use crate::totals::{ConnectorTotals, Telling, place_for, places, tell_accounts};
 use sqlite_trees::store::Alter;
-use st_booking::Keeper;
 use st_books::Books;
 use st_commands::{Fault, TURNS};
-use st_desk::{NoBooks, Till};
 use st_devices::CountRead;
 use st_hop::HopState;
+use st_hop_desk::{NoBooks, Till};
 use st_ledger::{LedgerError, OpensBooks, Placed, Watched, Watcher};
+use st_links::Keeper;
 use st_log::{Event, Start};
 use st_settings::{ConnectorSettings, Table};
 use st_transfer::{

@@ -13,11 +13,11 @@ use crate::error::RunError;
 use sqlite_trees::store::Alter;
 use st_books::{Amounts, Books, Entry, Kind, Side};
 use st_commands::{TURNS, put};
-use st_desk::Clock;
 use st_devices::CountWrite;
 use st_ledger::{
     LedgerError, OpensBooks, account_text, ledger_text, repeated_text, settle, settle_once,
 };
+use st_links::Clock;
 use st_settings::{LedgerSettings, Payment};
 use st_transfer::RuntimeClock;
 use std::alloc::{AllocError, Global};

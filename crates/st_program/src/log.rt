@@ -111,7 +111,7 @@ pub(crate) fn reopen<N: Files<File = File> + Clock>(
 
 /// The current time.
 fn now(rt: &impl Clock) -> Moment {
-    st_desk::Clock::now(&mut RuntimeClock::new(rt))
+    st_links::Clock::now(&mut RuntimeClock::new(rt))
 }
 
 /// Writes the line of an event of the command itself that happens now, if there is a log.

@@ -1,6 +1,6 @@
 -- The numbers by which a program reports why a transfer ended short.
 use Rattle.std.specs.Prelude.{ℕ, Option, None}
-use Rattle.st_desk.specs.Errors as desk
+use Rattle.st_hop_desk.specs.Errors as desk
 use Rattle.st_end.specs.Errors as end
 use Rattle.st_file.specs.Errors as file
 use Rattle.st_transfer.specs.declared.error.TransferError.{TransferError}

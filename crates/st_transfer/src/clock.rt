@@ -5,8 +5,8 @@ ghost use Rattle.std.specs.Duration.{as_nanos};
 ghost use Rattle.st_transfer.specs.Moments.{IsMomentOf, Tells, last_told};
 
 use crate::telling::{Log, tell_set_back};
-use st_desk::Clock;
 use st_ilp::Moment;
+use st_links::Clock;
 use std::io;
 use std::sync::{Mutex, Wait};
 use std::time::Duration;

@@ -22,12 +22,12 @@ use crate::storing::Storing;
 use crate::telling::{Sent, tell_outcome, tell_served};
 use crate::terms::ConnectTerms;
 use crate::waiting::AwaitListener;
-use st_booking::Keeper;
-use st_desk::{AccountShares, HopDesk, Links, Owed, Served, Till, serve};
-use st_hop::{HopState, Outcome};
+use st_hop::HopState;
+use st_hop_desk::{AccountShares, HopDesk, Owed, Served, Till, serve};
 use st_http::Answerer;
 use st_ilp::Moment;
 use st_link::{LinkCause, deadline_in, left_until};
+use st_links::{Keeper, Links, Outcome};
 use std::alloc::Global;
 use std::cell::Cell;
 use std::io::{Read, Write};
@@ -233,7 +233,7 @@ impl<C: Ledger, D: Ledger, K: Keeper, L, R: Net + Wait + Clock> Server<'_, C, D,
     /// Notes that a connection was accepted now, and how often threads are to have begun to accept before its request may
     /// be sent to a neighbour.
     fn note_accepted(&mut self, needed: u64) {
-        let now = st_desk::Clock::now(&mut self.clock);
+        let now = st_links::Clock::now(&mut self.clock);
         self.needed = needed;
         self.latest = latest_after(now);
         self.sent_for = None;

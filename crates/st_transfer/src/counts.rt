@@ -2,11 +2,11 @@
 
 ghost use Rattle.std.specs.Prelude.{◌≡◌, [], replicate, IfOk, IsTrue};
 ghost use Rattle.st_ilp.specs.Reading.{answer_at};
-ghost use Rattle.st_hop.specs.Seen.{outcome_seen};
+ghost use Rattle.st_links.specs.Outcomes.{outcome_seen};
 ghost use Rattle.st_transfer.specs.Counts as spec;
 
-use st_hop::Outcome;
 use st_ilp::{Answer, read_answer};
+use st_links::Outcome;
 use std::alloc::{AllocError, Global};
 use std::sync::{Mutex, Wait};
 

@@ -3,7 +3,7 @@
 use crate::accounts::{AccountTotals, note};
 use crate::counts::{Counts, counts_now};
 use crate::crew::Crew;
-use st_desk::HopDesk;
+use st_hop_desk::HopDesk;
 use std::alloc::Global;
 use std::sync::ledger::Ledger;
 use std::sync::{Mutex, Wait};

@@ -3,11 +3,10 @@
 ghost use Rattle.std.specs.Prelude.{◌≡◌, ◌↔◌, IsTrue, IsNone, IsSome, IfOk, IfSome, MatchOption, Some, slice_get};
 ghost use Rattle.st_http.specs.Texts as texts;
 
-use st_desk::Link;
-use st_hop::Outcome;
 use st_http::is_field_text;
 use st_ilp::Moment;
 use st_link::{HttpLink, LinkCause, Unreached};
+use st_links::{Link, Outcome};
 use std::alloc::{AllocError, Global};
 use std::net::{Net, SocketAddr};
 use std::sync::{Mutex, Wait};

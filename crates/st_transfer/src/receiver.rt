@@ -1,9 +1,9 @@
 //! An end that answers requests.
 
 use crate::telling::{Refusal, refusal_of};
-use st_desk::Clock;
 use st_end::{EndState, Received};
 use st_http::Answerer;
+use st_links::Clock;
 use std::alloc::Global;
 
 /// An end of a connection that answers the Prepares of its peer. If memory is refused it answers with a Reject of

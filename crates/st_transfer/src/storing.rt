@@ -3,8 +3,8 @@
 use crate::crew::Crew;
 use crate::serving::shut;
 use crate::waiting::AwaitListener;
-use st_booking::{Booking, Keeper};
-use st_desk::{Books, Fate, NoBooks, Till, deposit, refused_at};
+use st_hop_desk::{Books, Fate, NoBooks, Till, deposit, refused_at};
+use st_links::{Booking, Keeper};
 use std::alloc::Global;
 use std::sync::Wait;
 

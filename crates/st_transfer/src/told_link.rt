@@ -5,12 +5,12 @@ ghost use Rattle.st_transfer.specs.Telling.{end_told, wait_told};
 
 use crate::telling::{Log, cause_in, cause_of, tell};
 use crate::watching::Latest;
-use st_desk::{Link, LinkFault};
 use st_devices::Counted;
 use st_end::{Failed, FailedKind};
 use st_hub::Observer;
 use st_ilp::Moment;
 use st_link::HttpLink;
+use st_links::{Link, LinkFault};
 use st_log::{Blocked as At, Cause, Event};
 use st_sender::Blocked;
 use std::alloc::Global;

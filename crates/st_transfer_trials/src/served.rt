@@ -3,7 +3,7 @@
 use crate::books::{FULFILL, PREPARE};
 use crate::sides::{Crossing, connect_telling, usual};
 use crate::wires::{Door, Seen, Wires};
-use st_desk::{NoBooks, Owed, Till};
+use st_hop_desk::{NoBooks, Owed, Till};
 use st_transfer::{NoMinutes, TransferError};
 use std::alloc::Global;
 use std::net::{Net, TcpListener, TcpStream};

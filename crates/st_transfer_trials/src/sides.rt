@@ -2,11 +2,11 @@
 ghost use Rattle.std.specs.Prelude.{◌≡◌, IfOk};
 ghost use Rattle.st_hub.specs.Hub as hub;
 
-use st_booking::Keeper;
-use st_desk::{NoBooks, Owed, Till};
 use st_devices::Counting;
 use st_end::{EndState, Totals};
 use st_hop::{Account, HopError, HopState, Route};
+use st_hop_desk::{NoBooks, Owed, Till};
+use st_links::Keeper;
 use st_oer::{Rate, is_address};
 use st_sender::EndConfig;
 use st_transfer::{

@@ -1,8 +1,8 @@
 //! A Prepare that passes through a hop.
 
-use st_desk::Link;
-use st_hop::{Account, HopError, HopState, Outcome, Route, Verdict};
+use st_hop::{Account, HopError, HopState, Route, Verdict};
 use st_ilp::Moment;
+use st_links::{Link, Outcome};
 use std::alloc::Global;
 
 /// A hop between account 0, for `example.a`, and account 1, for `example.b`: each may owe 100.

@@ -1,7 +1,8 @@
 //! A ticket in the slot of a caller.
 
-use st_hop::{HopState, Outcome, Ticket};
+use st_hop::{HopState, Ticket};
 use st_ilp::Moment;
+use st_links::Outcome;
 use std::alloc::Global;
 
 /// Settles the ticket that a slot keeps, and empties the slot.

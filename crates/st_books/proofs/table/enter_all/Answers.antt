@@ -1,7 +1,7 @@
 use Rattle.std.proofs.Common.{◌∷◌, [], None, fold, subst, take, get_or, rules, arith, ap, sym, ◌∙◌}
 use Rattle.std.proofs.lemmas.List.Sums.{fold_more}
 use Rattle.sqlite_trees.specs.View.{View, IsClean}
-use Rattle.st_booking.specs.declared.booking.Booking.{Booking}
+use Rattle.st_links.specs.declared.booking.Booking.{Booking}
 use Rattle.st_books.specs.Sums.{booked_one}
 use Rattle.st_books.specs.Fulfillments.{last_after}
 use Rattle.st_books.specs.Standing.{Enters}

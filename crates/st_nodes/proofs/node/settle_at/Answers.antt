@@ -1,7 +1,7 @@
 use Rattle.std.proofs.Common.{◌≡◌, arith, sym, ◌∙◌, Some, None, nat_eq}
 use Rattle.std.proofs.lemmas.Grind.{common_steps}
 use Rattle.indexmap.specs.IndexMap.{get}
-use Rattle.st_hop.specs.Seen.{outcome_seen}
+use Rattle.st_links.specs.Outcomes.{outcome_seen}
 use Rattle.st_nodes.proofs.Spent.{found_among, kept_all, kept_less}
 use Rattle.st_nodes.proofs.node.settle_at.Goals as goal
 

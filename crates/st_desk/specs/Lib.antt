@@ -1,8 +1,0 @@
-pub mod Errors
-pub mod Desk
-pub mod Stored
-pub mod Board
-pub mod Answers
-pub mod Links
-pub mod Deadlines
-pub mod Serving

@@ -1,0 +1,6 @@
+pub mod Errors
+pub mod Desk
+pub mod Stored
+pub mod Board
+pub mod Deadlines
+pub mod Serving
