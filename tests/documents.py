@@ -49,8 +49,8 @@ OTHERS = {
     "places of an array, one more than the streams, or one for each number of a byte": {
         "st_receiver": "PLACES",
         "st_reassembly": "PLACES WORDS",
-        "st_bounded": "NUMBERS",
-        "st_nodes": "NUMBERS",
+        "st_world_quiet": "NUMBERS",
+        "st_world_parts": "NUMBERS",
         "st_queues": "WRITE_RINGS",
     },
     "numbers of errors of Linux": {"st_link": "EMFILE ENFILE"},

@@ -2,10 +2,10 @@
 //! delivered, and what is credited. And runs in which both ends send.
 
 use crate::lossy::{Input, Met, Numbers, PACKET_LIMIT, Passage, begin, read_all, step, world};
-use st_bounded::{Fate, LossyDelivery, lossy};
-use st_chain::{Event, Trace, World};
 use st_ilp::Moment;
-use st_nodes::{Side, Way};
+use st_world::{Event, Trace, World};
+use st_world_parts::{Side, Way};
+use st_world_quiet::{Fate, LossyDelivery, lossy};
 use std::alloc::Global;
 use std::process::Abort;
 

@@ -1,10 +1,10 @@
 //! What an event of a lossy run leads to, and the numbers by which such runs are drawn.
 
-use st_bounded::Fate;
-use st_chain::{Event, World};
 use st_ilp::Moment;
-use st_nodes::{Side, Told, Way};
 use st_sender::{EndConfig, MAX_PACKETS};
+use st_world::{Event, World};
+use st_world_parts::{Side, Told, Way};
+use st_world_quiet::Fate;
 use std::alloc::Global;
 use std::process::Abort;
 

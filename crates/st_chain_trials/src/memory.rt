@@ -4,10 +4,10 @@
 use crate::player::{Player, other};
 use crate::rows::{account, config};
 use refusing::Refusing;
-use st_chain::{Event, Fault, Trace};
 use st_hop::Account;
-use st_nodes::{EndEntry, Side, Told, Way};
 use st_receiver::Got;
+use st_world::{Event, Fault, Trace};
+use st_world_parts::{EndEntry, Side, Told, Way};
 use std::alloc::{Allocator, Global};
 use std::process::Abort;
 

@@ -1,11 +1,11 @@
 //! A world to which an event that met no memory happens again.
 
-use st_chain::{Event, Fault, Trace, World};
 use st_end::Totals;
 use st_hop::Account;
 use st_ilp::Moment;
-use st_nodes::{Side, Told, Way};
 use st_sender::EndConfig;
+use st_world::{Event, Fault, Trace, World};
+use st_world_parts::{Side, Told, Way};
 use std::alloc::Allocator;
 use std::process::Abort;
 

@@ -1,10 +1,10 @@
 //! Lossless runs: what they deliver, and how many Sends it takes, compared with the most that the contract allows.
 
 use refusing::Refusing;
-use st_bounded::{Delivery, Fault, quiet};
-use st_chain::{Trace, World};
-use st_nodes::Side;
 use st_sender::{EndConfig, MAX_PACKETS};
+use st_world::{Trace, World};
+use st_world_parts::Side;
+use st_world_quiet::{Delivery, Fault, quiet};
 use std::alloc::{Allocator, Global};
 use std::process::Abort;
 

@@ -1,11 +1,11 @@
 //! Hops that exchange, and worlds that are refused.
 
-use st_chain::{Event, Fault, MAX_HOPS, Trace, World};
 use st_hop::Account;
 use st_ilp::Moment;
-use st_nodes::{Side, Way};
 use st_oer::Rate;
 use st_sender::EndConfig;
+use st_world::{Event, Fault, MAX_HOPS, Trace, World};
+use st_world_parts::{Side, Way};
 use std::alloc::Global;
 use std::process::Abort;
 

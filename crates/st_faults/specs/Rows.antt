@@ -608,7 +608,7 @@ rows =
     } ∷
     record {
       number = 77;
-      home = codes "st_bounded";
+      home = codes "st_world_quiet";
       variant = codes "Fault::NoMemory";
       places = [];
       cause = codes "Out of memory for the record of a lossless run." ∷ [];
@@ -616,7 +616,7 @@ rows =
     } ∷
     record {
       number = 77;
-      home = codes "st_chain";
+      home = codes "st_world";
       variant = codes "Fault::NoMemory";
       places = [];
       cause = codes "Out of memory for the record of a world. The world is as before the event." ∷ [];
@@ -624,7 +624,7 @@ rows =
     } ∷
     record {
       number = 78;
-      home = codes "st_bounded";
+      home = codes "st_world_quiet";
       variant = codes "Fault::BadInput";
       places = [];
       cause = codes "There is no stream, more than 32, or not one amount for each." ∷ [];
@@ -632,7 +632,7 @@ rows =
     } ∷
     record {
       number = 78;
-      home = codes "st_chain";
+      home = codes "st_world";
       variant = codes "Fault::BadChain";
       places = [];
       cause = codes "There are more than eight hops, or a hop has a limit above 2^63 - 1." ∷ [];

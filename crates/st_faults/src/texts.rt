@@ -392,19 +392,19 @@ const FAULT_76: &str = "Numbers of the library:
 ";
 
 const FAULT_77: &str = "Numbers of the library:
-77  st_bounded Fault::NoMemory
+77  st_world_quiet Fault::NoMemory
     Out of memory for the record of a lossless run.
     What to do: Free memory and play it again. The returned trace has the events before.
-77  st_chain Fault::NoMemory
+77  st_world Fault::NoMemory
     Out of memory for the record of a world. The world is as before the event.
     What to do: Free memory and repeat the event.
 ";
 
 const FAULT_78: &str = "Numbers of the library:
-78  st_bounded Fault::BadInput
+78  st_world_quiet Fault::BadInput
     There is no stream, more than 32, or not one amount for each.
     What to do: Pass 1 to 32 streams, each with an amount.
-78  st_chain Fault::BadChain
+78  st_world Fault::BadChain
     There are more than eight hops, or a hop has a limit above 2^63 - 1.
     What to do: Pass at most eight hops with lawful limits.
 ";

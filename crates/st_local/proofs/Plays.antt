@@ -7,15 +7,15 @@ use Rattle.std.proofs.lemmas.Bool.{cases_eq}
 use Rattle.std.proofs.lemmas.List.Elements.{All-nil, All-push}
 use Rattle.st_settings.specs.declared.settings.LocalSettings.{LocalSettings}
 use Rattle.st_end.specs.Calls.{Answer}
-use Rattle.st_world.specs.Sides.{Client, Both, at}
-use Rattle.st_world.specs.Ledgers.{Ledger, ledger_or}
-use Rattle.st_world.specs.State.{World}
-use Rattle.st_world.specs.Events.{Event, Write, Told, Call}
+use Rattle.st_world_parts.specs.Sides.{Client, Both, at}
+use Rattle.st_world_parts.specs.Ledgers.{Ledger, ledger_or}
+use Rattle.st_world_parts.specs.State.{World}
+use Rattle.st_world_parts.specs.Events.{Event, Write, Told, Call}
 use Rattle.st_world.specs.Steps.{Happens}
 use Rattle.st_world.specs.Runs.{Chain, opening}
 use Rattle.st_world.specs.Holds.{Holds}
-use Rattle.st_chain.specs.Left.{Left, left_of}
-use Rattle.st_chain.proofs.Reached.{run_more}
+use Rattle.st_world.specs.Left.{Left, left_of}
+use Rattle.st_world.proofs.Reached.{run_more}
 use Rattle.st_local.specs.Parts.{part_at, sent_of, stream_at}
 use Rattle.st_local.specs.Playing.{Continues, Fits, HasSent, IsAllRead, Played, Plays, Sends, Writes, local_chain, read_on, written_on}
 use Rattle.st_local.proofs.Asides.{write_called}

@@ -4,13 +4,13 @@ use Rattle.std.specs.Prelude.{◌⊎◌, MatchBool}
 use Rattle.std.specs.List.{AllByRecursion}
 use Rattle.std.proofs.lemmas.Bool.{cases_lt}
 use Rattle.st_settings.specs.declared.settings.LocalSettings.{LocalSettings}
-use Rattle.st_world.specs.Sides.{Side, Client, Server}
-use Rattle.st_world.specs.State.{World}
-use Rattle.st_world.specs.Events.{Event, Write, Send, Arrive, AnswerArrives, Fault, Told, NoMemory}
+use Rattle.st_world_parts.specs.Sides.{Side, Client, Server}
+use Rattle.st_world_parts.specs.State.{World}
+use Rattle.st_world_parts.specs.Events.{Event, Write, Send, Arrive, AnswerArrives, Fault, Told, NoMemory}
 use Rattle.st_world.specs.Steps.{Happens}
 use Rattle.st_world.specs.Runs.{Run}
-use Rattle.st_chain.specs.Left.{lacks}
-use Rattle.st_chain.proofs.Reached.{run_more}
+use Rattle.st_world.specs.Left.{lacks}
+use Rattle.st_world.proofs.Reached.{run_more}
 use Rattle.st_local.specs.declared.chain.Counts.{Counts}
 use Rattle.st_local.specs.Parts.{stream_at}
 use Rattle.st_local.specs.Playing.{Played, is_lost}

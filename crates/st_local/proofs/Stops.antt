@@ -8,7 +8,7 @@ use Rattle.st_local.specs.declared.fault.LocalFault.{LocalFault}
 use Rattle.st_local.specs.declared.fault.LocalFault.TheVariants as fault
 use Rattle.st_local.specs.Errors.{fault_of, reader_faults, writer_faults}
 use Rattle.st_settings.specs.declared.settings.LocalSettings.{LocalSettings}
-use Rattle.st_world.specs.State.{World}
+use Rattle.st_world_parts.specs.State.{World}
 use Rattle.st_local.specs.Parts.{part_at, part_size, stream_at}
 use Rattle.st_local.specs.Playing.{Carries, HasSent, Played, Plays, StopsPlay, read_on}
 use Rattle.st_local.specs.Schedule.{BreaksOff, FailedRound, LastRound, StopsSending, start}

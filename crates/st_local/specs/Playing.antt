@@ -3,11 +3,11 @@ use Rattle.std.specs.Prelude.{◌≡◌, ◌≢◌, ◌⊎◌, ⊤, ℕ, ◌-◌
 use Rattle.st_sender.specs.Sending.{Config}
 use Rattle.st_sender.specs.Configs.{config}
 use Rattle.st_settings.specs.declared.settings.LocalSettings.{LocalSettings}
-use Rattle.st_world.specs.Sides.{Side, Client, Server}
-use Rattle.st_world.specs.State.{World, end_at, ledger_at}
-use Rattle.st_world.specs.Events.{Event, Write, Arrive, Fault}
+use Rattle.st_world_parts.specs.Sides.{Side, Client, Server}
+use Rattle.st_world_parts.specs.State.{World, end_at, ledger_at}
+use Rattle.st_world_parts.specs.Events.{Event, Write, Arrive, Fault}
 use Rattle.st_world.specs.Runs.{Chain, Run, opening}
-use Rattle.st_chain.specs.Chains.{chain_of, one_to_one, free_account}
+use Rattle.st_world.specs.Chains.{chain_of, one_to_one, free_account}
 use Rattle.st_local.specs.declared.fault.LocalFault.{LocalFault}
 use Rattle.st_local.specs.declared.fault.LocalFault.TheVariants as fault
 use Rattle.st_local.specs.Parts.{part_size, part_at, stream_at, sent_of}

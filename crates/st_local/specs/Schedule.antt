@@ -5,9 +5,9 @@ use Rattle.std.specs.List.{AllByRecursion}
 use Rattle.std.specs.Int.{w64, to_be_bytes}
 use Rattle.st_settings.specs.declared.settings.LocalSettings.{LocalSettings}
 use Rattle.st_end.specs.Sending.{GoesNone}
-use Rattle.st_world.specs.Sides.{Side, Client, Server}
-use Rattle.st_world.specs.State.{World, end_at, ledger_at}
-use Rattle.st_world.specs.Events.{Event, OpenStream, Write, Read, Close, Send, Arrive, AnswerArrives, Fault, IsEvent, Told, Silent, Sent, Call}
+use Rattle.st_world_parts.specs.Sides.{Side, Client, Server}
+use Rattle.st_world_parts.specs.State.{World, end_at, ledger_at}
+use Rattle.st_world_parts.specs.Events.{Event, OpenStream, Write, Read, Close, Send, Arrive, AnswerArrives, Fault, IsEvent, Told, Silent, Sent, Call}
 use Rattle.st_world.specs.Steps.{Step}
 use Rattle.st_world.specs.Runs.{Run, opening}
 use Rattle.st_local.specs.declared.chain.Counts.{Counts}

@@ -1,7 +1,7 @@
 -- How many Prepares a run had, and how many the law of a run with losses allows.
 use Rattle.std.specs.Prelude.{◌≡◌, ◌&&◌, Bool, ℕ, zero, suc, ◌+◌, ◌-◌, ◌*◌, ◌/◌, false, Option, Some, None, min, nat_eq, nat_le, nat_lt, if◌then◌else◌}
 use Rattle.st_settings.specs.declared.settings.LocalSettings.{LocalSettings}
-use Rattle.st_world.specs.Sides.{Client}
+use Rattle.st_world_parts.specs.Sides.{Client}
 use Rattle.st_local.specs.declared.sends.LocalSends.{LocalSends}
 use Rattle.st_local.specs.Parts.{part_size}
 use Rattle.st_local.specs.Schedule.{arrived}

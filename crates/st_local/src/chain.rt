@@ -1,15 +1,15 @@
 //! Prepares that are sent over a chain, one at a time, and their answers.
 
 ghost use Rattle.std.specs.Prelude.{◌≡◌, ◌+◌, ◌-◌, ◌≤◌, ◌<◌, ◌∷◌, [], OnOk, OnErr, IfErr};
-ghost use Rattle.st_world.specs.Sides.{Client, Server};
-ghost use Rattle.st_nodes.specs.Seen.{way_seen};
+ghost use Rattle.st_world_parts.specs.Sides.{Client, Server};
+ghost use Rattle.st_world_parts.specs.Seen.{way_seen};
 ghost use Rattle.st_local.specs.Playing.{Continues, IsLost, StopsPlay, is_lost, most_events};
 ghost use Rattle.st_local.specs.Schedule.{Begins, BeginsCrossing, BeginsEach, BeginsToGo, BeginsTurn, Crosses, Goes, IsCounted, Takes, Turn, answer, arrival, arrived, each, fault_at, link_of, number_on};
 
 use crate::fault::LocalFault;
 use crate::play::Play;
-use st_chain::Event;
-use st_nodes::{Side, Way};
+use st_world::Event;
+use st_world_parts::{Side, Way};
 use std::alloc::Allocator;
 
 /// How many Prepares were sent so far. Each that is not lost is delivered over every link, and so is its answer. So the

@@ -1,7 +1,7 @@
 //! The command `local`: sends an input over a chain of connectors in memory, and writes what was read at its end.
 //!
 //! The input is cut into parts (`specs/Parts.antt`), each on its own stream of one STREAM connection (RFC 0029) through
-//! a world of st_chain. What is played is a run by that world's definitions (`specs/Playing.antt`), so what holds of
+//! a world of st_world. What is played is a run by that world's definitions (`specs/Playing.antt`), so what holds of
 //! every run holds of it. The bytes that are written are those that its reads gave. `specs/Endings.antt` defines how a
 //! run may end, and what was written by then.
 #![tactic(auto)]

@@ -1,21 +1,21 @@
 //! A world that is played event by event.
 
 ghost use Rattle.std.specs.Prelude.{◌≡◌, ◌≢◌, ◌↔◌, ◌+◌, ◌<◌, ◌≤◌, ℕ, [], ◌∷◌, MatchBool, true, false, length, pos, IfOk, IfErr, IsOkUnless, OnErr, OnOk};
-ghost use Rattle.st_world.specs.Sides.{Client};
-ghost use Rattle.st_world.specs.Events as events;
+ghost use Rattle.st_world_parts.specs.Sides.{Client};
+ghost use Rattle.st_world_parts.specs.Events as events;
 ghost use Rattle.st_world.specs.Steps.{Happens};
-ghost use Rattle.st_nodes.specs.Seen.{side_seen, told_seen};
-ghost use Rattle.st_chain.specs.Seen.{event_seen};
-ghost use Rattle.st_chain.specs.Left.{lacks};
+ghost use Rattle.st_world_parts.specs.Seen.{side_seen, told_seen};
+ghost use Rattle.st_world.specs.Seen.{event_seen};
+ghost use Rattle.st_world.specs.Left.{lacks};
 ghost use Rattle.st_local.specs.Playing.{Continues, Fits, HasFailed, IsAside, Plays, StopsPlay, Writes, local_config, most_events, written_on, read_on};
 ghost use Rattle.st_local.specs.Schedule.{Begins, IsDenied, IsIdle, IsSent, Takes, Tells, has_ended, is_sent, iv_of, sending, start};
 
 use crate::fault::LocalFault;
-use st_chain::{Event, World};
 use st_ilp::Moment;
-use st_nodes::{Side, Told};
 use st_sender::{EndConfig, MAX_PACKET_LIMIT, MAX_PACKETS};
 use st_settings::LocalSettings;
+use st_world::{Event, World};
+use st_world_parts::{Side, Told};
 use std::alloc::Allocator;
 use std::marker::Model;
 

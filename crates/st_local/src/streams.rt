@@ -9,8 +9,8 @@ use crate::chain::{Counts, send_client, send_server};
 use crate::fault::LocalFault;
 use crate::parts::{part_size, stream_at};
 use crate::play::Play;
-use st_chain::Event;
-use st_nodes::Side;
+use st_world::Event;
+use st_world_parts::Side;
 use std::alloc::Allocator;
 
 /// How many bytes are written at once.

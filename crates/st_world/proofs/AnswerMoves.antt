@@ -29,11 +29,11 @@ use Rattle.st_end.specs.State.{EndState}
 use Rattle.st_end.specs.Sending.{open_flight}
 use Rattle.st_receiver.specs.Reasons.{f99}
 use Rattle.st_end.specs.Receiving.{Verdict, Unread, Rejects, Fulfills, verdict, verdict_on, opened_as, judged_as, is_own_condition, prepare_or_none, prepare_in, fulfilled, reply_payload, received_as, answer_for}
-use Rattle.st_world.specs.Sides.{Side}
-use Rattle.st_world.specs.State.{World, Node, Put, Given, lane_at, with_put, with_given, end_at, nth, with_node, with_hop_entry, Place, AtEnd, AtHop, far, near, next_link, prev_link, account_from}
-use Rattle.st_world.specs.Events.{Told}
-use Rattle.st_world.specs.Ends.{end_entry, given_by, taken_if, flight_of, BackAtEnd}
-use Rattle.st_world.specs.Hops.{put_on, Comes, ArrivesAtHop, settled_entry, BackAtTicket, BackAtHop, reject_entry}
+use Rattle.st_world_parts.specs.Sides.{Side}
+use Rattle.st_world_parts.specs.State.{World, Node, Put, Given, lane_at, with_put, with_given, end_at, nth, with_node, with_hop_entry, Place, AtEnd, AtHop, far, near, next_link, prev_link, account_from}
+use Rattle.st_world_parts.specs.Events.{Told}
+use Rattle.st_world_parts.specs.Ends.{end_entry, given_by, taken_if, flight_of, BackAtEnd}
+use Rattle.st_world_parts.specs.Hops.{put_on, Comes, ArrivesAtHop, settled_entry, BackAtTicket, BackAtHop, reject_entry}
 use Rattle.st_world.specs.Steps.{ArrivesAt, Arrives, BackAt, Back, AnswerBack}
 use Rattle.st_world.proofs.Spellings.{IsSpelled, spelled_at, spelled_reads, goes_on, reject_fails, fulfill_is, opened_long}
 use Rattle.st_world.proofs.Moves.{Came, Move, Replied, Settles, accepted, by_answer, by_fault, forwards, lands, move_at, refuses, rejected, replies, risen, settles, stays}

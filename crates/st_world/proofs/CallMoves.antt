@@ -12,10 +12,10 @@ use Rattle.st_sender.specs.declared.error.OutboxError.{OutboxError}
 use Rattle.st_sender.specs.Refusals.{is_closed, no_more, full, too_much, all_accepted, all_offered, is_aborted}
 use Rattle.st_end.specs.Calls.{wrapped_too, refusal_at, done, connection_refusal}
 use Rattle.st_receiver.specs.Reading.{Got, Bytes, Nothing, End, Aborted, is_read, got_bytes, got_by, after_got_by, after_get}
-use Rattle.st_world.specs.Sides.{Side, Client, Server, other}
-use Rattle.st_world.specs.State.{World, end_at, with_end, ledger_at, with_ledger}
-use Rattle.st_world.specs.Ledgers.{cleanly_closed, given_up, Ledger, written, got}
-use Rattle.st_world.specs.Ends.{accepted_at, read_at}
+use Rattle.st_world_parts.specs.Sides.{Side, Client, Server, other}
+use Rattle.st_world_parts.specs.State.{World, end_at, with_end, ledger_at, with_ledger}
+use Rattle.st_world_parts.specs.Ledgers.{cleanly_closed, given_up, Ledger, written, got}
+use Rattle.st_world_parts.specs.Ends.{accepted_at, read_at}
 use Rattle.st_receiver.specs.Reading as reading
 use Rattle.st_sender.specs.declared.error.OutboxError.TheVariants as outbox
 use Rattle.st_sender.specs.Refusals as sender

@@ -14,7 +14,7 @@ use Rattle.st_receiver.specs.Data.{with_data, after_data, after_frame, after_fra
 use Rattle.st_receiver.specs.Money.{with_credits, parts, after_money}
 use Rattle.st_receiver.specs.Closes.{with_close, after_close, after_closes, with_abort, after_connection_close, after_connection_closes}
 use Rattle.st_receiver.specs.Judged.{effect}
-use Rattle.st_world.specs.Sides.{IsPrefixOf}
+use Rattle.st_world_parts.specs.Sides.{IsPrefixOf}
 use Rattle.st_world.proofs.Maps.{got_insert, got_retain, Within}
 use Rattle.st_streams.proofs.SlotLemmas.{slot_cases, slot_here, slot_apart, slot_map}
 

@@ -12,9 +12,9 @@ use Rattle.st_sender.specs.Accepting.{after_write}
 use Rattle.st_receiver.specs.Streams.{Receiving, incoming_at, with_incoming}
 use Rattle.st_end.specs.State.{EndState}
 use Rattle.st_end.specs.Receiving.{prepare_in}
-use Rattle.st_world.specs.Sides.{Side, Client, Server, other}
-use Rattle.st_world.specs.State.{World, ledger_at, with_ledger, Put, lane_at, end_at, with_end}
-use Rattle.st_world.specs.Ledgers.{Ledger, ledger_or}
+use Rattle.st_world_parts.specs.Sides.{Side, Client, Server, other}
+use Rattle.st_world_parts.specs.State.{World, ledger_at, with_ledger, Put, lane_at, end_at, with_end}
+use Rattle.st_world_parts.specs.Ledgers.{Ledger, ledger_or}
 use Rattle.st_world.proofs.Maps.{get_here, get_apart, Within, got_append}
 use Rattle.st_streams.proofs.SlotLemmas.{slot_here, slot_apart, slot_within}
 use Rattle.st_keys.specs.Keys.{DerivedKeys}

@@ -18,7 +18,7 @@ use Rattle.st_end.specs.declared.error.EndError.TheVariants.{NoStream, Connectio
 use Rattle.st_end.specs.declared.flight.Open as flights
 use Rattle.st_end.specs.Answers.{raised, fits, failure_of, answered_by, after_outcome, pays, pays_by}
 use Rattle.st_end.specs.Receiving.{opened_too}
-use Rattle.st_world.specs.State.{EndEntry}
+use Rattle.st_world_parts.specs.State.{EndEntry}
 use Rattle.st_world.proofs.Moves.{Turns, opens, raises, Replied, rejected, risen, accepted}
 use Rattle.st_world.proofs.EndSteps.{opened_keeps, marked_keeps, opening_either}
 use Rattle.st_receiver.specs.Limits.{reply_frames}

@@ -3,7 +3,7 @@ use Rattle.std.proofs.Common.{◌≡◌, ◌≢◌, ℕ, zero, suc, ◌+◌, Boo
 use Rattle.std.specs.Ordering.{nat_cmp}
 use Rattle.std.specs.FinMap as fmap
 use Rattle.std.proofs.lemmas.Grind.{common_steps}
-use Rattle.st_world.specs.Sides.{IsPrefixOf}
+use Rattle.st_world_parts.specs.Sides.{IsPrefixOf}
 
 pub get_here : {X : Type 0} (m : fmap.FinMap nat_cmp X) (k : ℕ) (x : X) → fmap.get (fmap.insert m k x) k ≡ Some x
 get_here m k x = grind (arith, common_steps, fmap.gets)

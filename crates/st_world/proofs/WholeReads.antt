@@ -6,9 +6,9 @@ use Rattle.st_reassembly.specs.Held.{after_read}
 use Rattle.st_sender.specs.Sending.{Outgoing, outgoing_at, with_outgoing}
 use Rattle.st_receiver.specs.Streams.{Receiving, Incoming, incoming_at, incoming_or}
 use Rattle.st_receiver.specs.Reading.{Got, Bytes, Nothing, End, Aborted}
-use Rattle.st_world.specs.Sides.{Side, Client, Server, other, Both, at, put, IsPrefixOf}
-use Rattle.st_world.specs.State.{World, Party, ledger_at, with_ledger, end_at, with_end}
-use Rattle.st_world.specs.Ledgers.{Ledger, got}
+use Rattle.st_world_parts.specs.Sides.{Side, Client, Server, other, Both, at, put, IsPrefixOf}
+use Rattle.st_world_parts.specs.State.{World, Party, ledger_at, with_ledger, end_at, with_end}
+use Rattle.st_world_parts.specs.Ledgers.{Ledger, got}
 use Rattle.st_streams.proofs.SlotLemmas.{slot_here, slot_apart, slot_within}
 use Rattle.st_world.proofs.DataReceived.{fresh_at, StreamFine, incoming_here}
 use Rattle.st_world.proofs.DataSent.{OutFine}

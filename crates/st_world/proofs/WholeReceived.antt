@@ -16,7 +16,7 @@ use Rattle.st_receiver.specs.Data.{with_data, after_data, stream_fault, data_fau
 use Rattle.st_receiver.specs.Money.{after_money}
 use Rattle.st_receiver.specs.Closes.{with_close, after_close, after_closes, after_connection_closes}
 use Rattle.st_receiver.specs.Judged.{with_sequence, effect}
-use Rattle.st_world.specs.Ledgers.{Ledger}
+use Rattle.st_world_parts.specs.Ledgers.{Ledger}
 use Rattle.st_world.proofs.Maps.{Within}
 use Rattle.st_world.proofs.DataReceived.{incoming_here, incoming_cases, insert_keeps, money_keeps, FrameFine, FramesFine}
 use Rattle.st_world.proofs.Credited.{frames_keep}

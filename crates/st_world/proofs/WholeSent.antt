@@ -24,8 +24,8 @@ use Rattle.st_end.specs.declared.error.EndError.TheVariants.{NoStream, Connectio
 use Rattle.st_end.specs.declared.flight.Open as flights
 use Rattle.st_end.specs.Answers.{raised, fits, failure_of, answered_by, outcome_left}
 use Rattle.st_end.specs.Receiving.{opened_too, all_marked, prepare_in}
-use Rattle.st_world.specs.Ledgers.{Ledger}
-use Rattle.st_world.specs.State.{EndEntry}
+use Rattle.st_world_parts.specs.Ledgers.{Ledger}
+use Rattle.st_world_parts.specs.State.{EndEntry}
 use Rattle.st_world.proofs.Maps.{get_here, get_apart}
 use Rattle.st_streams.proofs.SlotLemmas.{slot_cases}
 use Rattle.st_keys.specs.Keys.{DerivedKeys}

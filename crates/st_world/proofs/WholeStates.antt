@@ -10,9 +10,9 @@ use Rattle.st_sender.specs.Sending.{Sending, Outgoing, outgoing_at}
 use Rattle.st_receiver.specs.Streams.{Receiving, Incoming, incoming_at}
 use Rattle.st_end.specs.State.{EndState}
 use Rattle.st_end.specs.Receiving.{prepare_in}
-use Rattle.st_world.specs.Sides.{Side, Client, Server, other, Both, at, put}
-use Rattle.st_world.specs.State.{World, Party, end_at, Put, Given, lane_at, nth}
-use Rattle.st_world.specs.Ledgers.{Ledger, ledger_or}
+use Rattle.st_world_parts.specs.Sides.{Side, Client, Server, other, Both, at, put}
+use Rattle.st_world_parts.specs.State.{World, Party, end_at, Put, Given, lane_at, nth}
+use Rattle.st_world_parts.specs.Ledgers.{Ledger, ledger_or}
 use Rattle.st_ilp.specs.Reading.{is_fulfill_text}
 use Rattle.st_world.proofs.DataWays.{by_side, ledger_here, ledger_apart}
 use Rattle.st_world.proofs.WholeReceived.{OutWhole, InWhole, SendWhole, RecvWhole, Rise, rise_same, rise_join, FramesSound, FramesTaken, Onward, rise_onward}

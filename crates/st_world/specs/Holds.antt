@@ -5,10 +5,10 @@ use Rattle.std.specs.declared.option.Option.{Option}
 use Rattle.std.specs.declared.option.Option.TheVariants.{None, Some}
 use Rattle.st_receiver.specs.Streams.{all_credited}
 use Rattle.st_end.specs.Receiving.{prepare_in}
-use Rattle.st_world.specs.Sides.{Side, at, IsPrefixOf}
-use Rattle.st_world.specs.State.{World, EndEntry, HopEntry, Node, Party, Put, Given, Place, AtEnd, AtHop, lane_at, end_at, ledger_at, nth, far, near, account_from, account_to}
+use Rattle.st_world_parts.specs.Sides.{Side, at, IsPrefixOf}
+use Rattle.st_world_parts.specs.State.{World, EndEntry, HopEntry, Node, Party, Put, Given, Place, AtEnd, AtHop, lane_at, end_at, ledger_at, nth, far, near, account_from, account_to}
 use Rattle.st_ilp.specs.Reading.{is_fulfill_text}
-use Rattle.st_world.specs.Ledgers.{Ledger}
+use Rattle.st_world_parts.specs.Ledgers.{Ledger}
 
 -- what was read of a stream is a prefix of what was written
 abbrev pub ReadsPrefix : World → Type 0

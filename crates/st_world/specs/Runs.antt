@@ -10,9 +10,9 @@ use Rattle.st_sender.specs.Sending.{Config}
 use Rattle.st_end.specs.declared.role.Role as ends
 use Rattle.st_end.specs.declared.role.Role.TheVariants as roles
 use Rattle.st_end.specs.State.{EndState, new_end}
-use Rattle.st_world.specs.Sides.{Side, Client, Server}
-use Rattle.st_world.specs.State.{Party, Node, World, no_lanes}
-use Rattle.st_world.specs.Events.{Event, Told}
+use Rattle.st_world_parts.specs.Sides.{Side, Client, Server}
+use Rattle.st_world_parts.specs.State.{new_party, Party, Node, World, no_lanes}
+use Rattle.st_world_parts.specs.Events.{Event, Told}
 use Rattle.st_world.specs.Steps.{Happens}
 
 abbrev pub Run : World → List Event → World → Type 0
@@ -50,9 +50,6 @@ is_chain c = nat_le (length c.hops) 8 && list_all is_lawful c.hops
 abbrev pub role_of : Side → ends.Role
 role_of Client = roles.Client
 role_of Server = roles.Server
-
-abbrev pub new_party : EndState → Party
-new_party e = record { state = e; bag = [] }
 
 -- a world in which nothing has happened
 abbrev pub opening : Chain → World

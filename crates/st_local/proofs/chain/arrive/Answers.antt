@@ -1,6 +1,6 @@
 use Rattle.std.proofs.Common.{ℕ, ap, ◌∙◌}
-use Rattle.st_world.specs.Events as events
-use Rattle.st_nodes.specs.Seen.{way_seen}
+use Rattle.st_world_parts.specs.Events as events
+use Rattle.st_world_parts.specs.Seen.{way_seen}
 use Rattle.st_local.specs.Schedule.{arrival, link_of}
 use Rattle.st_local.proofs.Rounds.{arrival_is, takes_as}
 use Rattle.st_local.proofs.chain.arrive.Goals as goal

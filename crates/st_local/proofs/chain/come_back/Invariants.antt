@@ -1,4 +1,4 @@
-use Rattle.st_nodes.specs.Seen.{way_seen}
+use Rattle.st_world_parts.specs.Seen.{way_seen}
 use Rattle.st_local.specs.Playing.{Continues}
 use Rattle.st_local.specs.Schedule.{Takes, answer, each}
 use Rattle.st_local.proofs.chain.come_back.Given as goal

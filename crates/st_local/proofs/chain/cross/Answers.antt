@@ -1,4 +1,4 @@
-use Rattle.st_nodes.specs.Seen.{way_seen}
+use Rattle.st_world_parts.specs.Seen.{way_seen}
 use Rattle.st_local.proofs.Rounds.{crosses_then, crossing_then}
 use Rattle.st_local.proofs.Stops.{on_err, on_ok}
 use Rattle.st_local.proofs.chain.cross.Goals as goal

@@ -1,5 +1,5 @@
 use Rattle.std.proofs.Common.{◌≡◌, ◌+◌, ℕ, false, sym, subst, ◌∙◌, arith}
-use Rattle.st_world.specs.Sides.{Client}
+use Rattle.st_world_parts.specs.Sides.{Client}
 use Rattle.st_local.specs.Playing.{is_lost}
 use Rattle.st_local.specs.Schedule.{arrived}
 use Rattle.st_local.proofs.Rounds.{arrived_few, arrived_more, begins_on, goes_on}

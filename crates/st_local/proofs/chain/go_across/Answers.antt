@@ -1,7 +1,7 @@
 use Rattle.std.proofs.Common.{ℕ, ◌+◌, subst, arith}
-use Rattle.st_world.specs.Events.{Event}
+use Rattle.st_world_parts.specs.Events.{Event}
 use Rattle.st_settings.specs.declared.settings.LocalSettings.{LocalSettings}
-use Rattle.st_nodes.specs.Seen.{way_seen}
+use Rattle.st_world_parts.specs.Seen.{way_seen}
 use Rattle.std.proofs.Common.{[], ◌∷◌}
 use Rattle.st_local.specs.Schedule.{Begins, BeginsEach, Takes, arrival}
 use Rattle.st_local.proofs.Plays.{continues_then}

@@ -1,6 +1,6 @@
 use Rattle.std.proofs.Common.{◌≡◌, ◌+◌, ℕ, true, sym, subst, inr, arith, rules}
 use Rattle.std.proofs.lemmas.Grind.{common_steps}
-use Rattle.st_world.specs.Sides.{Client}
+use Rattle.st_world_parts.specs.Sides.{Client}
 use Rattle.st_local.specs.Schedule.{Goes, IsSent}
 use Rattle.st_local.proofs.Stops.{on_err, on_ok}
 use Rattle.st_local.proofs.chain.send_client.Goals as goal

@@ -1,6 +1,6 @@
 use Rattle.std.proofs.Common.{◌≡◌, ◌+◌, ℕ, true, refl, subst, inr, arith, rules}
 use Rattle.std.proofs.lemmas.Grind.{common_steps}
-use Rattle.st_world.specs.Sides.{Server}
+use Rattle.st_world_parts.specs.Sides.{Server}
 use Rattle.st_local.specs.Schedule.{BeginsCrossing, IsSent}
 use Rattle.st_local.proofs.Rounds.{arrived_all, begins_on, goes_on}
 use Rattle.st_local.proofs.Stops.{on_err, on_ok}

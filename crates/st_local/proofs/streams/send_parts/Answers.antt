@@ -1,5 +1,5 @@
 use Rattle.std.proofs.Common.{ℕ, length, refl, sym, ap, ◌∙◌, inr, arith}
-use Rattle.st_world.specs.Sides.{Client}
+use Rattle.st_world_parts.specs.Sides.{Client}
 use Rattle.st_local.specs.Parts.{part_size}
 use Rattle.st_local.specs.Schedule.{BreaksOff, StopsSending, arrived, reach_of}
 use Rattle.st_local.proofs.Plays.{has_none, parts_read}

@@ -1,5 +1,5 @@
 use Rattle.std.proofs.Common.{ℕ, length, sym, subst}
-use Rattle.st_world.specs.Sides.{Client, Server}
+use Rattle.st_world_parts.specs.Sides.{Client, Server}
 use Rattle.st_local.specs.Parts.{part_size}
 use Rattle.st_local.specs.Schedule.{BeginsRound, BeginsTurn, Turn, WritesOn}
 use Rattle.st_local.proofs.Plays.{sends_on}

@@ -1,8 +1,8 @@
 -- Of two accounts, the one that it did not come from.
 use Rattle.std.proofs.Common.{◌≡◌, ◌≢◌, ℕ, zero, suc, ◌<◌, refl, subst, arith}
 use Rattle.st_hop.proofs.Crossings.{arrived_crosses}
-use Rattle.st_world.specs.Sides.{Side, Client, Server}
-use Rattle.st_world.specs.State.{account_from, account_to}
+use Rattle.st_world_parts.specs.Sides.{Side, Client, Server}
+use Rattle.st_world_parts.specs.State.{account_from, account_to}
 use Rattle.st_world.proofs.laws.prepares_go_across.Goals as goal
 
 other_one : (way : Side) (outgoing : ℕ) → outgoing < 2 → outgoing ≢ account_from way → outgoing ≡ account_to way

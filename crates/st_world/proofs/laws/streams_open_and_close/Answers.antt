@@ -1,11 +1,11 @@
 -- By what the two calls give.
 use Rattle.std.proofs.Common.{◌≡◌, ℕ, true, false, refl, sym, ap, subst, Option, Some, inl}
 use Rattle.st_end.specs.Calls.{own_number, opening_as, close}
-use Rattle.st_world.specs.Sides.{Client}
-use Rattle.st_world.specs.Ledgers.{cleanly_closed}
-use Rattle.st_world.specs.State.{World, end_at, with_end, ledger_at}
-use Rattle.st_world.specs.Events.{Opened, Call}
-use Rattle.st_world.specs.Ends.{accepted_at}
+use Rattle.st_world_parts.specs.Sides.{Client}
+use Rattle.st_world_parts.specs.Ledgers.{cleanly_closed}
+use Rattle.st_world_parts.specs.State.{World, end_at, with_end, ledger_at}
+use Rattle.st_world_parts.specs.Events.{Opened, Call}
+use Rattle.st_world_parts.specs.Ends.{accepted_at}
 use Rattle.st_world.specs.Runs.{Chain, opening}
 use Rattle.st_world.proofs.DataWays.{ledger_here}
 use Rattle.st_world.proofs.laws.streams_open_and_close.Goals as goal

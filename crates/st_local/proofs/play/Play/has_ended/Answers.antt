@@ -1,6 +1,6 @@
 use Rattle.std.proofs.Common.{◌∙◌, ap, subst}
 use Rattle.st_world.specs.Holds.{Holds}
-use Rattle.st_chain.specs.Left.{left_of}
+use Rattle.st_world.specs.Left.{left_of}
 use Rattle.st_local.specs.Playing.{Played}
 use Rattle.st_local.proofs.Plays.{ended_whole}
 use Rattle.st_local.proofs.play.Play.has_ended.Goals as goal

@@ -1,7 +1,7 @@
 use Rattle.std.proofs.Common.{◌≡◌, ◌∙◌, ℕ, map, ap, arith, replicate}
 use Rattle.st_sender.specs.Sending.{Config}
 use Rattle.st_world.specs.Runs.{opening}
-use Rattle.st_chain.specs.Chains.{chain_of, one_to_one, free_account}
+use Rattle.st_world.specs.Chains.{chain_of, one_to_one, free_account}
 use Rattle.st_local.specs.Playing.{local_chain}
 use Rattle.st_local.proofs.Plays.{opened_blank, plays_none}
 use Rattle.st_local.proofs.play.Play.new.Goals as goal

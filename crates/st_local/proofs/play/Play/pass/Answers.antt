@@ -1,6 +1,6 @@
 use Rattle.std.proofs.Common.{arith}
-use Rattle.st_nodes.specs.Seen.{told_seen}
-use Rattle.st_chain.specs.Seen.{event_seen}
+use Rattle.st_world_parts.specs.Seen.{told_seen}
+use Rattle.st_world.specs.Seen.{event_seen}
 use Rattle.st_local.proofs.Asides.{aside_kept}
 use Rattle.st_local.proofs.play.Play.pass.Goals as goal
 

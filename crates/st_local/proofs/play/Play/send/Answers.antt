@@ -1,5 +1,5 @@
-use Rattle.st_world.specs.Events as events
-use Rattle.st_nodes.specs.Seen.{side_seen, told_seen}
+use Rattle.st_world_parts.specs.Events as events
+use Rattle.st_world_parts.specs.Seen.{side_seen, told_seen}
 use Rattle.st_local.specs.Schedule.{Begins, sending}
 use Rattle.st_local.proofs.Rounds.{begins_as, send_is, send_tells}
 use Rattle.st_local.proofs.Stops.{err_now}

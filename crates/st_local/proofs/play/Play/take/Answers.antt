@@ -1,6 +1,6 @@
 use Rattle.std.proofs.Common.{◌+◌, refl, sym, subst, arith, inr}
-use Rattle.st_nodes.specs.Seen.{told_seen}
-use Rattle.st_chain.specs.Seen.{event_seen}
+use Rattle.st_world_parts.specs.Seen.{told_seen}
+use Rattle.st_world.specs.Seen.{event_seen}
 use Rattle.st_local.specs.Playing.{Fits, Played}
 use Rattle.st_local.specs.Schedule.{Begins}
 use Rattle.st_local.proofs.Plays.{plays_next}

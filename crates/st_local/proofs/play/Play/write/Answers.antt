@@ -1,9 +1,9 @@
 use Rattle.std.proofs.Common.{sym, subst, Bool, inr}
 use Rattle.std.specs.Prelude.{MatchBool}
 use Rattle.st_local.specs.Playing.{Continues, Writes}
-use Rattle.st_nodes.specs.Seen.{told_seen}
-use Rattle.st_world.specs.Sides.{Client}
-use Rattle.st_world.specs.Events as events
+use Rattle.st_world_parts.specs.Seen.{told_seen}
+use Rattle.st_world_parts.specs.Sides.{Client}
+use Rattle.st_world_parts.specs.Events as events
 use Rattle.st_local.proofs.Plays.{writes_called}
 use Rattle.st_local.proofs.Rounds.{takes_told}
 use Rattle.st_local.proofs.play.Play.write.Goals as goal

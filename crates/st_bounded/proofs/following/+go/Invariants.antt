@@ -1,4 +1,0 @@
-use Rattle.st_bounded.proofs.following.+go.Given as goal
-
-abbrev pub decreases-go : goal.decreases-go
-decreases-go g l = l.hops

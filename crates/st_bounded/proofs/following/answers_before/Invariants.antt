@@ -1,7 +1,0 @@
-use Rattle.std.proofs.Common.{◌≡◌, ◌≤◌}
-use Rattle.st_passage.specs.LostWorlds.{course_at, gives_by}
-use Rattle.st_bounded.specs.Fates.{courses_of}
-use Rattle.st_bounded.proofs.following.answers_before.Given as goal
-
-abbrev pub invariant-loop-send : goal.invariant-loop-send
-invariant-loop-send l = (l.count ≡ gives_by l.all (course_at (courses_of l.fates)) l.send l.link) × (l.count ≤ l.send)

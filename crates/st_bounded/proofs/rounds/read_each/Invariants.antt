@@ -1,7 +1,0 @@
-use Rattle.st_passage.specs.Worlds.{Met}
-use Rattle.st_passage.specs.Rounds.{reads}
-use Rattle.st_bounded.specs.Playing.{read_limit}
-use Rattle.st_bounded.proofs.rounds.read_each.Given as goal
-
-abbrev pub invariant-loop-stream : goal.invariant-loop-stream
-invariant-loop-stream g l = Met l.fn.world (reads read_limit 0 l.stream) l.world

@@ -1,4 +1,0 @@
-pub mod Faults
-pub mod Playing
-pub mod Promised
-pub mod Fates

@@ -1,9 +1,0 @@
-use Rattle.st_world.specs.Sides.{Client, Server}
-use Rattle.st_chain.proofs.Meets.{open_meets}
-use Rattle.st_chain.proofs.trace.Trace.open.Goals as goal
-
-pub returns-in-Client-clause-met : goal.returns-in-Client-clause-met
-returns-in-Client-clause-met g c = λ ls. rw (c.in-Client.is, c.note.ensures.told) (open_meets _ _ _ _ _ c.self.view_is Client ls _ _ _ c.open_at-told.ensures c.note.ensures.refused)
-
-pub returns-in-Server-clause-met : goal.returns-in-Server-clause-met
-returns-in-Server-clause-met g c = λ ls. rw (c.in-Server.is, c.note-in-Server.ensures.told) (open_meets _ _ _ _ _ c.self.view_is Server ls _ _ _ c.open_at-told-in-Server.ensures c.note-in-Server.ensures.refused)

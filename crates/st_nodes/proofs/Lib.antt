@@ -1,4 +1,0 @@
-pub mod AllFrom
-pub mod Spent
-pub mod Flights
-pub mod Slots

@@ -1,5 +1,0 @@
-use Rattle.st_nodes.proofs.AllFrom.{no_ledger}
-use Rattle.st_nodes.proofs.ledger.Ledgers.new.Goals as goal
-
-pub returns : goal.returns
-returns g c = no_ledger _ 256 c.in_ok-no_ledgers.ensures

@@ -1,5 +1,0 @@
-use Rattle.st_passage.proofs.laws.a_new_hop_is_calm.Goals as goal
-use Rattle.st_passage.proofs.Opening.{new_calm}
-
-pub returns : goal.returns
-returns g = λ destination own client server routes most left leads small within few. new_calm destination 0 own client server routes most left leads small within few

@@ -1,5 +1,0 @@
-use Rattle.st_quiet.proofs.laws.a_trip_is_an_exchange.Goals as goal
-use Rattle.st_quiet.proofs.Trips.{trip_exchange}
-
-pub returns : goal.returns
-returns g = λ n e f g h quiet abreast joined tellable trip. trip_exchange n e f g h quiet abreast joined tellable trip

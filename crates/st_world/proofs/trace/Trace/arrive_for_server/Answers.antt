@@ -1,0 +1,18 @@
+use Rattle.std.proofs.Common.{◌≡◌, ◌<◌, ◌∙◌, length, arith}
+use Rattle.st_world_parts.specs.Sides.{Client, Server}
+use Rattle.st_world_parts.specs.State.{AtEnd, AtHop}
+use Rattle.st_world.specs.Left.{in_world}
+use Rattle.st_world.proofs.Reached.{meets_there, up_end, up_hop}
+use Rattle.st_world.proofs.trace.Trace.arrive_for_server.Goals as goal
+
+pub returns-then-link-hops-clause-met : goal.returns-then-link-hops-clause-met
+returns-then-link-hops-clause-met g c =
+    let w = in_world c.args.self.now c.args.links.now in
+    let at : c.args.link ≡ length c.args.self.now.nodes = c.if-link-hops.true ∙ c.hops.ensures in
+    meets_there w _ c.args.link Client c.args.which c.args.now c.args.put.now (AtEnd Server) _ (up_end w c.args.link at) c.in_ok-told.ensures.met
+
+pub returns-clause-met : goal.returns-clause-met
+returns-clause-met g c =
+    let w = in_world c.args.self.now c.args.links.now in
+    let below : c.args.link < length c.args.self.now.nodes = omega (arith, c.if-link-hops.false, c.hops.ensures, c.requires.within, c.requires.links) in
+    meets_there w _ c.args.link Client c.args.which c.args.now c.args.put.now (AtHop c.args.link) _ (up_hop w c.args.link below) c.in_ok-told-2.ensures.met

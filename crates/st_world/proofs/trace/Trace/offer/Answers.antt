@@ -1,0 +1,9 @@
+use Rattle.st_world_parts.specs.Sides.{Client, Server}
+use Rattle.st_world.proofs.Meets.{offer_meets}
+use Rattle.st_world.proofs.trace.Trace.offer.Goals as goal
+
+pub returns-in-Client-clause-met : goal.returns-in-Client-clause-met
+returns-in-Client-clause-met g c = λ ls. rw (c.in-Client.is, c.note.ensures.told) (offer_meets _ _ _ _ _ c.self.view_is Client ls _ _ _ _ _ _ c.offer_at-told.ensures.met c.note.ensures.refused)
+
+pub returns-in-Server-clause-met : goal.returns-in-Server-clause-met
+returns-in-Server-clause-met g c = λ ls. rw (c.in-Server.is, c.note-in-Server.ensures.told) (offer_meets _ _ _ _ _ c.self.view_is Server ls _ _ _ _ _ _ c.offer_at-told-in-Server.ensures.met c.note-in-Server.ensures.refused)

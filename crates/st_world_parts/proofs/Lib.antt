@@ -1,0 +1,4 @@
+pub mod AllFrom
+pub mod Flights
+pub mod Slots
+pub mod Spent

@@ -1,0 +1,9 @@
+pub mod Sides
+pub mod Ledgers
+pub mod State
+pub mod Events
+pub mod Ends
+pub mod Hops
+pub mod Kept
+pub mod Parts
+pub mod Seen

@@ -1,0 +1,38 @@
+use Rattle.st_end.specs.State.{new_end}
+use Rattle.st_world_quiet.specs.Calls.{allow_each, begin_each, lengths, other}
+use Rattle.st_world_quiet.specs.Losses.{lost_answers}
+use Rattle.st_world_quiet.proofs.SameEnds.{begin_same}
+use Rattle.st_world_quiet.proofs.LostRuns.{calls_lose, run_alive_by, run_bounded_by, run_delivered_by, run_ended_by}
+use Rattle.st_world_quiet.proofs.hop_laws.a_lossy_run_by_calls_over_hops_is_bounded.Goals as goal
+use Rattle.st_world_quiet.proofs.HopLostRuns.{run_trips}
+use Rattle.st_world_quiet.proofs.LostCrosses.{calls_crossings}
+
+pub returns-clause-bounded : goal.returns-clause-bounded
+returns-clause-bounded g' = λ role keys own peer config its_config input money most count limit fates hops others g h room may modest modest_most lose few calm run.
+    run_bounded_by (lengths input) money config fates (begin_each input money count (new_end role keys own peer config)) (allow_each most 0 65 (new_end (other role) keys peer own its_config)) g h modest (calls_lose role keys own peer config its_config input money most count (lost_answers fates) may modest modest_most lose)
+    (run_trips (lengths input) money config fates peer (begin_each input money count (new_end role keys own peer config)) hops (allow_each most 0 65 (new_end (other role) keys peer own its_config)) g others h modest (calls_lose role keys own peer config its_config input money most count (lost_answers fates) may modest modest_most lose) (begin_same input money count (new_end role keys own peer config)).peer calm
+    (calls_crossings role keys own peer config its_config input money most count limit fates hops others g h room may modest modest_most lose few calm run))
+
+pub returns-clause-goes_on : goal.returns-clause-goes_on
+returns-clause-goes_on g' = λ role keys own peer config its_config input money most count limit fates hops others g h room may modest modest_most lose few calm run.
+    run_alive_by (lengths input) money config fates (begin_each input money count (new_end role keys own peer config)) (allow_each most 0 65 (new_end (other role) keys peer own its_config)) g h modest (calls_lose role keys own peer config its_config input money most count (lost_answers fates) may modest modest_most lose)
+    (run_trips (lengths input) money config fates peer (begin_each input money count (new_end role keys own peer config)) hops (allow_each most 0 65 (new_end (other role) keys peer own its_config)) g others h modest (calls_lose role keys own peer config its_config input money most count (lost_answers fates) may modest modest_most lose) (begin_same input money count (new_end role keys own peer config)).peer calm
+    (calls_crossings role keys own peer config its_config input money most count limit fates hops others g h room may modest modest_most lose few calm run)) few
+
+pub returns-clause-delivered : goal.returns-clause-delivered
+returns-clause-delivered g' = λ role keys own peer config its_config input money most count limit fates hops others g h k x room may modest modest_most lose few calm run done at.
+    run_delivered_by (lengths input) money config fates (begin_each input money count (new_end role keys own peer config)) (allow_each most 0 65 (new_end (other role) keys peer own its_config)) g h k x modest (calls_lose role keys own peer config its_config input money most count (lost_answers fates) may modest modest_most lose)
+    (run_trips (lengths input) money config fates peer (begin_each input money count (new_end role keys own peer config)) hops (allow_each most 0 65 (new_end (other role) keys peer own its_config)) g others h modest (calls_lose role keys own peer config its_config input money most count (lost_answers fates) may modest modest_most lose) (begin_same input money count (new_end role keys own peer config)).peer calm
+    (calls_crossings role keys own peer config its_config input money most count limit fates hops others g h room may modest modest_most lose few calm run))
+    (run_alive_by (lengths input) money config fates (begin_each input money count (new_end role keys own peer config)) (allow_each most 0 65 (new_end (other role) keys peer own its_config)) g h modest (calls_lose role keys own peer config its_config input money most count (lost_answers fates) may modest modest_most lose)
+    (run_trips (lengths input) money config fates peer (begin_each input money count (new_end role keys own peer config)) hops (allow_each most 0 65 (new_end (other role) keys peer own its_config)) g others h modest (calls_lose role keys own peer config its_config input money most count (lost_answers fates) may modest modest_most lose) (begin_same input money count (new_end role keys own peer config)).peer calm
+    (calls_crossings role keys own peer config its_config input money most count limit fates hops others g h room may modest modest_most lose few calm run)) few) done at
+
+pub returns-clause-ended : goal.returns-clause-ended
+returns-clause-ended g' = λ role keys own peer config its_config input money most count limit fates hops others g h k bytes x room may modest modest_most lose few calm run done at.
+    run_ended_by (lengths input) money config fates (begin_each input money count (new_end role keys own peer config)) (allow_each most 0 65 (new_end (other role) keys peer own its_config)) g h k bytes x modest (calls_lose role keys own peer config its_config input money most count (lost_answers fates) may modest modest_most lose)
+    (run_trips (lengths input) money config fates peer (begin_each input money count (new_end role keys own peer config)) hops (allow_each most 0 65 (new_end (other role) keys peer own its_config)) g others h modest (calls_lose role keys own peer config its_config input money most count (lost_answers fates) may modest modest_most lose) (begin_same input money count (new_end role keys own peer config)).peer calm
+    (calls_crossings role keys own peer config its_config input money most count limit fates hops others g h room may modest modest_most lose few calm run))
+    (run_alive_by (lengths input) money config fates (begin_each input money count (new_end role keys own peer config)) (allow_each most 0 65 (new_end (other role) keys peer own its_config)) g h modest (calls_lose role keys own peer config its_config input money most count (lost_answers fates) may modest modest_most lose)
+    (run_trips (lengths input) money config fates peer (begin_each input money count (new_end role keys own peer config)) hops (allow_each most 0 65 (new_end (other role) keys peer own its_config)) g others h modest (calls_lose role keys own peer config its_config input money most count (lost_answers fates) may modest modest_most lose) (begin_same input money count (new_end role keys own peer config)).peer calm
+    (calls_crossings role keys own peer config its_config input money most count limit fates hops others g h room may modest modest_most lose few calm run)) few) done at

@@ -1,0 +1,134 @@
+//! A lossless run, played whole.
+
+ghost use Rattle.std.specs.Prelude.{◌≡◌, ◌<◌, ◌≤◌, ◌+◌, ℕ, true, false, length, IfErr, IfOk, OnOk};
+ghost use Rattle.std.specs.Result.{IsErrAnd};
+ghost use Rattle.st_world_parts.specs.State as state;
+ghost use Rattle.st_world.specs.Runs.{Chain, opening};
+ghost use Rattle.st_world.specs.Left.{left_of};
+ghost use Rattle.st_world_quiet.specs.Plays.{MayPlay, are_lawful, input_of, money_of, most_sends, sends_needed};
+ghost use Rattle.st_world_quiet.specs.Playing.{Continues, IsEndlessAfter, IsPlayed, IsStuckAfter, Stops, bytes_of};
+ghost use Rattle.st_world_quiet.specs.Promised.{Delivers, is_unrecorded};
+
+use crate::fault::Fault;
+use crate::most::{are_lawful, most_rounds};
+use crate::opening::{allow_each, begin_each};
+use crate::rounds::{go_rounds, read_each};
+use crate::stop::Stop;
+use st_world::{Trace, World};
+use std::alloc::Allocator;
+use std::marker::Model;
+
+/// The result of a lossless run, and the number of Prepares that the client sent.
+#[derive(Drop)]
+pub struct Delivery<A: Allocator + Copy> {
+    trace: Trace<A>,
+    sends: u64,
+}
+
+impl<A: Allocator + Copy> Model for Delivery<A> {
+    ghost use Rattle.std.specs.Coded.{codes};
+    ghost use Rattle.std.specs.FinMap as map;
+    ghost use Rattle.st_world_quiet.specs.Playing.{Outcome};
+
+    ghost Value = { Outcome };
+
+    ghost coded = { Prim.hlevel (codes, map.code) };
+
+    ghost view = { λ a. record { trace = a.trace; sends = a.sends } };
+}
+
+impl<A: Allocator + Copy> Delivery<A> {
+    /// The result of the run. Does not allocate.
+    pub fn trace(&self) -> &Trace<A>
+        ensures { result.now ≡ self.now.trace }
+    {
+        &self.trace
+    }
+
+    /// The number of Prepares that the client sent. Does not allocate.
+    pub fn sends(&self) -> u64
+        ensures { result ≡ self.now.sends }
+    {
+        self.sends
+    }
+}
+
+/// Plays a run of fewer rounds than `most`, and counts its Sends.
+fn play<A: Allocator + Copy>(
+    world: &mut World<A>,
+    input: &[&[u8]],
+    money: &[u64],
+    most: u64,
+    sends: &mut u64,
+) -> Result<(), Stop>
+    requires { sends.old ≡ 0 }
+    ensures played { OnOk result (IsPlayed (input_of (bytes_of input.now)) (money_of money.now) (length input.now) (length world.old.nodes) sends.new world.old world.new) }
+    ensures stops { IfErr result (λ e. Stops (IsStuckAfter (input_of (bytes_of input.now)) (money_of money.now) (length input.now) world.old)
+        (IsEndlessAfter (input_of (bytes_of input.now)) (money_of money.now) (length input.now) (length world.old.nodes) most world.old) e world.old world.new) }
+{
+    let hops = world.trace().hops();
+    allow_each(world, money)?;
+    begin_each(world, input, money)?;
+    go_rounds(world, input, hops, most, sends)?;
+    read_each(world)
+}
+
+/// Whether the world could not record an event.
+pub(crate) fn is_unrecorded(ended: &Result<(), Stop>) -> bool
+    ensures { result ≡ is_unrecorded ended.now }
+{
+    matches!(ended, Err(Stop::NoMemory))
+}
+
+/// Plays a lossless run with 1 to 32 streams and an amount for each.
+fn play_lawful<A: Allocator + Copy>(
+    mut world: World<A>,
+    input: &[&[u8]],
+    money: &[u64],
+) -> Result<Delivery<A>, (Fault, Trace<A>)>
+    requires { are_lawful (bytes_of input.now) money.now ≡ true }
+    ensures only_memory { IfErr result (λ e. e.0 ≡ Fault.NoMemory) }
+    ensures run { IfOk result (λ q. (w : state.World) × Continues world w × (q.trace ≡ left_of w)) }
+    ensures part { IfErr result (λ e. (w : state.World) × Continues world w × (e.1 ≡ left_of w)) }
+    ensures delivered { IfOk result (λ q. (c : Chain) → world ≡ opening c → MayPlay c (bytes_of input.now) money.now → q.trace.refused ≡ false → Delivers (bytes_of input.now) money.now world q) }
+    ensures bounded { IfOk result (λ q. (c : Chain) → world ≡ opening c → MayPlay c (bytes_of input.now) money.now → q.trace.refused ≡ false → q.sends + 1 ≤ most_sends c.config.packet_limit (bytes_of input.now) money.now) }
+    ensures sharper { IfOk result (λ q. (c : Chain) → world ≡ opening c → MayPlay c (bytes_of input.now) money.now → q.trace.refused ≡ false → q.sends ≤ sends_needed c.config.packet_limit (bytes_of input.now) money.now) }
+{
+    let most = most_rounds(input, money);
+    let mut sends = 0;
+    let ended = play(&mut world, input, money, most, &mut sends);
+    let trace = world.into_trace();
+    if is_unrecorded(&ended) {
+        return Err((Fault::NoMemory, trace));
+    }
+    Ok(Delivery { trace, sends })
+}
+
+/// Plays a lossless run of a world in which nothing has happened, with the bytes `input` and the amount `money` of each
+/// stream, in units of the client's asset. The server raises the receive max of each stream to its amount. The client
+/// opens the streams, offers and writes. Then, at moment 0, the client sends a Prepare with its number as IV, which is
+/// forwarded over all hops; the answer is sent back; the server reads all there is; and the client writes on, until
+/// nothing is left to send. A last read of each stream gives its end.
+///
+/// Fails with `BadInput` unless there are 1 to 32 streams and as many amounts. Fails with `NoMemory` if the world could
+/// not record an event; the trace is then that of the events before it. If a call ran out of memory, the run ends
+/// there, and its trace says so. Otherwise, under the premises of st_world_quiet's `MayPlay`, all was delivered, by no more
+/// Prepares than the bound.
+pub fn quiet<A: Allocator + Copy>(
+    world: World<A>,
+    input: &[&[u8]],
+    money: &[u64],
+) -> Result<Delivery<A>, (Fault, Trace<A>)>
+    ensures bad_input { are_lawful (bytes_of input.now) money.now ≡ false → IsErrAnd result (λ e. (e.0 ≡ Fault.BadInput) × (e.1 ≡ left_of world)) }
+    ensures only_memory { are_lawful (bytes_of input.now) money.now ≡ true → IfErr result (λ e. e.0 ≡ Fault.NoMemory) }
+    ensures run { IfOk result (λ q. (w : state.World) × Continues world w × (q.trace ≡ left_of w)) }
+    ensures part { IfErr result (λ e. (w : state.World) × Continues world w × (e.1 ≡ left_of w)) }
+    ensures delivered { IfOk result (λ q. (c : Chain) → world ≡ opening c → MayPlay c (bytes_of input.now) money.now → q.trace.refused ≡ false → Delivers (bytes_of input.now) money.now world q) }
+    ensures bounded { IfOk result (λ q. (c : Chain) → world ≡ opening c → MayPlay c (bytes_of input.now) money.now → q.trace.refused ≡ false → q.sends + 1 ≤ most_sends c.config.packet_limit (bytes_of input.now) money.now) }
+    ensures sharper { IfOk result (λ q. (c : Chain) → world ≡ opening c → MayPlay c (bytes_of input.now) money.now → q.trace.refused ≡ false → q.sends ≤ sends_needed c.config.packet_limit (bytes_of input.now) money.now) }
+{
+    if are_lawful(input, money) {
+        return play_lawful(world, input, money);
+    }
+    Err((Fault::BadInput, world.into_trace()))
+}
