@@ -53,9 +53,9 @@ OTHERS = {
         "st_world_parts": "NUMBERS",
         "st_queues": "WRITE_RINGS",
     },
-    "numbers of errors of Linux": {"st_link": "EMFILE ENFILE"},
+    "numbers of errors of Linux": {"ilpstream_serving": "EMFILE ENFILE"},
     "numbers that calls return": {"st_embed": "DONE IDLE MISUSE ARGUMENT ROOM UNKNOWN ENDED ABORTED ONWARD"},
-    "the number of the one stream that `send` and `receive` use": {"st_transfer": "STREAM"},
+    "the number of the one stream that `send` and `receive` use": {"ilpstream_ends": "STREAM"},
 }
 
 

@@ -133,8 +133,8 @@ def all_is_printed_that_explains(play, number):
 FIRST_LINES = [
     ("90", "st_commands Fault::Input, in frames, local, send, connector"),
     ("58", "st_local LocalFault::Failed, in local"),
-    ("58", "st_transfer TransferError::Failed, in send"),
-    ("88", "st_transfer TransferError::Silent, in receive"),
+    ("58", "ilpstream_serving TransferError::Failed, in send"),
+    ("88", "ilpstream_serving TransferError::Silent, in receive"),
     ("96", "st_program RunError::BadTable, in connector"),
     ("116", "st_books BooksError::NoAccount, in ledger"),
     ("91", "st_commands Fault::Output, in frames, local, send, receive, connector, ledger, explain"),

@@ -18,7 +18,7 @@ places_text (place ∷ places) = codes ", in " ++ listed (place ∷ places)
 abbrev pub line_text : Text → Text
 line_text line = codes "    " ++ line ++ 10 ∷ []
 
--- `58  st_transfer TransferError::Failed, in send`, and below it the cause and what to do
+-- `58  ilpstream_serving TransferError::Failed, in send`, and below it the cause and what to do
 abbrev pub row_text : Row → Text
 row_text r =
     decimal r.number ++ codes "  " ++ r.home ++ codes " " ++ r.variant ++ places_text r.places ++ 10

@@ -394,7 +394,7 @@ rows =
     } ∷
     record {
       number = 58;
-      home = codes "st_transfer";
+      home = codes "ilpstream_serving";
       variant = codes "TransferError::Failed";
       places = codes "send" ∷ [];
       cause = codes "In `send`: the connection failed. At once, if a packet was refused for good: no route leads to" ∷
@@ -410,7 +410,7 @@ rows =
     } ∷
     record {
       number = 59;
-      home = codes "st_transfer";
+      home = codes "ilpstream_serving";
       variant = codes "TransferError::Stalled";
       places = codes "send" ∷ [];
       cause = codes "In `send`: nothing more can be sent. The limits that the receiver advertised let nothing of the" ∷
@@ -520,7 +520,7 @@ rows =
     } ∷
     record {
       number = 69;
-      home = codes "st_transfer";
+      home = codes "ilpstream_serving";
       variant = codes "TransferError::Rings";
       places = codes "send" ∷ [];
       cause = codes "In `send`: out of memory for the rings of its streams. Nothing was sent." ∷ [];
@@ -668,7 +668,7 @@ rows =
     } ∷
     record {
       number = 80;
-      home = codes "st_transfer";
+      home = codes "ilpstream_serving";
       variant = codes "TransferError::Accept";
       places = codes "receive" ∷
           codes "connector" ∷
@@ -736,7 +736,7 @@ rows =
     } ∷
     record {
       number = 86;
-      home = codes "st_transfer";
+      home = codes "ilpstream_serving";
       variant = codes "TransferError::Turns";
       places = codes "send" ∷
           codes "receive" ∷
@@ -756,7 +756,7 @@ rows =
     } ∷
     record {
       number = 88;
-      home = codes "st_transfer";
+      home = codes "ilpstream_serving";
       variant = codes "TransferError::Silent";
       places = codes "receive" ∷ [];
       cause = codes "In `receive`: no valid request arrived for as many seconds as `--patience` says. What arrived" ∷
@@ -816,7 +816,7 @@ rows =
     } ∷
     record {
       number = 90;
-      home = codes "st_transfer";
+      home = codes "ilpstream_serving";
       variant = codes "TransferError::IvFault";
       places = codes "send" ∷ [];
       cause = codes "In `send`: the file of random bytes cannot be read, or has no twelve bytes left." ∷ [];
@@ -1019,7 +1019,7 @@ rows =
     } ∷
     record {
       number = 99;
-      home = codes "st_transfer";
+      home = codes "ilpstream_serving";
       variant = codes "TransferError::NoMemory";
       places = codes "send" ∷
           codes "connector" ∷

@@ -248,7 +248,7 @@ Numbers of the library:
 const FAULT_58: &str = "58  st_local LocalFault::Failed, in local
     In `local`: 200 Prepares in a row were lost.
     What to do: Lose fewer with `--lose`.
-58  st_transfer TransferError::Failed, in send
+58  ilpstream_serving TransferError::Failed, in send
     In `send`: the connection failed. At once, if a packet was refused for good: no route leads to
     `--peer`, or the receiver has another secret or another address. Otherwise after 200 exchanges
     in a row without success: nobody listens at `--to`, a wrong token, no way on from a connector, a
@@ -263,7 +263,7 @@ Numbers of the library:
     What to do: Open a new connection with a new secret.
 ";
 
-const FAULT_59: &str = "59  st_transfer TransferError::Stalled, in send
+const FAULT_59: &str = "59  ilpstream_serving TransferError::Stalled, in send
     In `send`: nothing more can be sent. The limits that the receiver advertised let nothing of the
     rest be sent, most often of the money, and no packet waits for an answer that could raise them.
     What to do: Compare `--money` with `receive --receive-max`, and both totals. Stop the receiver
@@ -331,7 +331,7 @@ const FAULT_68: &str = "Numbers of the library:
     What to do: Use at most 63 threads.
 ";
 
-const FAULT_69: &str = "69  st_transfer TransferError::Rings, in send
+const FAULT_69: &str = "69  ilpstream_serving TransferError::Rings, in send
     In `send`: out of memory for the rings of its streams. Nothing was sent.
     What to do: Give the process more memory: a transfer needs some megabytes.
 Numbers of the library:
@@ -419,7 +419,7 @@ const FAULT_80: &str = "80  st_program RunError::NoListener, in receive, connect
     Nothing can listen at `--listen`.
     What to do: Another program has the port, the address is not one of this host, or a port below
     1,024 needs a right.
-80  st_transfer TransferError::Accept, in receive, connector
+80  ilpstream_serving TransferError::Accept, in receive, connector
     No connection could be accepted in 100 tries in a row, 10 ms apart. A `connector` ends so only
     if none of its threads has a connection; otherwise it continues to try.
     What to do: The process may have too many open files: see `ulimit -n`.
@@ -462,7 +462,7 @@ const FAULT_85: &str = "Numbers of the library:
     What to do: The connection broke. Repeat the exchange on a new one.
 ";
 
-const FAULT_86: &str = "86  st_transfer TransferError::Turns, in send, receive
+const FAULT_86: &str = "86  ilpstream_serving TransferError::Turns, in send, receive
     In `receive`: 2,147,483,647 connections were accepted. In `send`: a worker looked 2,147,483,647
     times for something to send.
     What to do: Begin again, with a new secret.
@@ -478,7 +478,7 @@ const FAULT_87: &str = "Numbers of the library:
     What to do: Free memory and repeat the exchange on a new connection.
 ";
 
-const FAULT_88: &str = "88  st_transfer TransferError::Silent, in receive
+const FAULT_88: &str = "88  ilpstream_serving TransferError::Silent, in receive
     In `receive`: no valid request arrived for as many seconds as `--patience` says. What arrived
     before is written.
     What to do: Look why the sender stopped. What is written is a beginning of the file, or all of
@@ -504,7 +504,7 @@ const FAULT_90: &str = "90  st_commands Fault::Input, in frames, local, send, co
 90  st_program RunError::NoRandom, in send
     In `send`: the file of random bytes cannot be opened.
     What to do: Look at `--random`.
-90  st_transfer TransferError::IvFault, in send
+90  ilpstream_serving TransferError::IvFault, in send
     In `send`: the file of random bytes cannot be read, or has no twelve bytes left.
     What to do: Use a file that does not end, such as `/dev/urandom`.
 ";
@@ -596,7 +596,7 @@ const FAULT_99: &str =
 99  st_local LocalFault::NoMemory, in local
     In `local`: out of memory. Nothing was written.
     What to do: Give the process more memory.
-99  st_transfer TransferError::NoMemory, in send, connector
+99  ilpstream_serving TransferError::NoMemory, in send, connector
     In `send` and `connector`: out of memory for links, for threads or for the totals of accounts,
     or not one thread could be made.
     What to do: Give the process more memory (a transfer needs some megabytes), or let it have more

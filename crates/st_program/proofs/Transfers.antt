@@ -6,9 +6,9 @@ use Rattle.st_devices.specs.declared.counted.Counting.{Counting}
 use Rattle.st_end.specs.Calls.{set_receive_max}
 use Rattle.st_end.specs.State.{EndState}
 use Rattle.st_end.specs.Totals.{Totals}
-use Rattle.st_transfer.specs.Keeping.{TellsTotals, file_stream}
-use Rattle.st_transfer.specs.Outcomes.{ComesTo, no_totals}
-use Rattle.st_transfer.specs.declared.error.TransferError.{TransferError}
+use Rattle.ilpstream_ends.specs.Keeping.{TellsTotals, file_stream}
+use Rattle.ilpstream_ends.specs.Outcomes.{ComesTo, no_totals}
+use Rattle.ilpstream_serving.specs.declared.error.TransferError.{TransferError}
 use Rattle.st_commands.specs.declared.error.Fault.{Fault}
 use Rattle.st_settings.specs.declared.settings.ReceiveSettings.{ReceiveSettings}
 use Rattle.st_settings.specs.declared.settings.SendSettings.{SendSettings}

@@ -1,7 +1,7 @@
 -- What lines ask a command for while it runs.
 use Rattle.std.specs.Prelude.{List, ℕ, Bool, true, false, ◌&&◌, Option, Some, None, Result, Ok, Err, bytes_eq, codes, if◌then◌else◌}
-use Rattle.st_transfer.specs.declared.error.TransferError.{TransferError}
-use Rattle.st_transfer.specs.declared.error.TransferError.TheVariants as transfer
+use Rattle.ilpstream_serving.specs.declared.error.TransferError.{TransferError}
+use Rattle.ilpstream_serving.specs.declared.error.TransferError.TheVariants as transfer
 use Rattle.st_program.specs.declared.error.RunError.{RunError}
 use Rattle.st_program.specs.declared.error.RunError.TheVariants as run
 use Rattle.st_program.specs.declared.control.Asked.{Asked}

@@ -1,7 +1,7 @@
 -- The numbers that report why a command ended before its work was done.
 use Rattle.std.specs.Prelude.{ℕ}
 use Rattle.st_commands.specs.Errors.{fault_number}
-use Rattle.st_transfer.specs.Errors as transfer
+use Rattle.ilpstream_serving.specs.Errors as transfer
 use Rattle.st_ledger.specs.Errors as ledger
 use Rattle.st_program.specs.declared.error.RunError.{RunError}
 use Rattle.st_program.specs.declared.error.RunError.TheVariants as run

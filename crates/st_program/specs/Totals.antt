@@ -2,9 +2,9 @@
 use Rattle.std.specs.Prelude.{◌≡◌, ℕ, suc, List, [], ◌∷◌, ◌++◌, nat_eq, if◌then◌else◌, codes, decimal, Option, Some, None, Result, Ok, Err, ⊤}
 use Rattle.st_commands.specs.declared.error.Fault.{Fault}
 use Rattle.st_end.specs.Totals.{Totals}
-use Rattle.st_transfer.specs.declared.accounts.AccountTotals.{AccountTotals}
-use Rattle.st_transfer.specs.declared.counts.AccountCounts.{AccountCounts}
-use Rattle.st_transfer.specs.declared.counts.CodeCount.{CodeCount}
+use Rattle.ilpstream_connector.specs.declared.accounts.AccountTotals.{AccountTotals}
+use Rattle.ilpstream_connector.specs.declared.counts.AccountCounts.{AccountCounts}
+use Rattle.ilpstream_connector.specs.declared.counts.CodeCount.{CodeCount}
 use Rattle.st_program.specs.declared.counts.Line.{Line}
 use Rattle.st_program.specs.declared.counts.Line.TheVariants as lines
 use Rattle.st_program.specs.declared.error.RunError.{RunError}

@@ -12,13 +12,13 @@ use Rattle.st_end.specs.State.{EndState, new_end}
 use Rattle.st_end.specs.Totals.{Totals}
 use Rattle.st_end.specs.declared.error.EndError.TheVariants as refusals
 use Rattle.st_end.specs.declared.role.Role.TheVariants as roles
-use Rattle.st_transfer.specs.Keeping.{TellsTotals, file_stream}
-use Rattle.st_transfer.specs.Outcomes.{ComesTo, no_totals}
-use Rattle.st_transfer.specs.declared.error.TransferError.{TransferError}
-use Rattle.st_transfer.specs.declared.error.TransferError.TheVariants as transfer
-use Rattle.st_transfer.specs.declared.neighbour.Neighbour.{Neighbour}
-use Rattle.st_transfer.specs.declared.terms.ReceiveTerms.{ReceiveTerms}
-use Rattle.st_transfer.specs.declared.terms.SendTerms.{SendTerms}
+use Rattle.ilpstream_ends.specs.Keeping.{TellsTotals, file_stream}
+use Rattle.ilpstream_ends.specs.Outcomes.{ComesTo, no_totals}
+use Rattle.ilpstream_serving.specs.declared.error.TransferError.{TransferError}
+use Rattle.ilpstream_serving.specs.declared.error.TransferError.TheVariants as transfer
+use Rattle.ilpstream_serving.specs.declared.neighbour.Neighbour.{Neighbour}
+use Rattle.ilpstream_serving.specs.declared.terms.ReceiveTerms.{ReceiveTerms}
+use Rattle.ilpstream_serving.specs.declared.terms.SendTerms.{SendTerms}
 use Rattle.st_commands.specs.Endings.{most_turns}
 use Rattle.st_commands.specs.declared.error.Fault.{Fault}
 use Rattle.st_commands.specs.declared.error.Fault.TheVariants as fault

@@ -3,7 +3,7 @@ use Rattle.std.specs.Prelude.{ℕ, Bool, ◌&&◌, List, map, Option, Some, None
 use Rattle.st_http.specs.Texts.{is_field_text}
 use Rattle.st_settings.specs.declared.line.AccountLine.{AccountLine}
 use Rattle.st_settings.specs.declared.line.Neighbour as line
-use Rattle.st_transfer.specs.declared.neighbour.Neighbour as reached
+use Rattle.ilpstream_serving.specs.declared.neighbour.Neighbour as reached
 
 -- HOST:PORT and the token there
 pub record Way : Type 0 where

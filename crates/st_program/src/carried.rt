@@ -4,10 +4,10 @@ ghost use Rattle.std.specs.Prelude.{IfErr};
 ghost use Rattle.st_program.specs.Table.{WhyNotCarried};
 
 use crate::error::RunError;
+use ilpstream_connector::AccountTotals;
 use st_commands::Fault;
 use st_hop::HopState;
 use st_settings::Table;
-use st_transfer::AccountTotals;
 use std::alloc::{AllocError, Global};
 
 /// What the accounts of the last table owed and were owed at its end, by their names.

@@ -20,6 +20,8 @@ use crate::obstacle::{Obstacle, Step};
 use crate::reports::{EachMinute, Renews, Reports, TableFile};
 use crate::table_file::{Unread, bytes_of, table_in};
 use crate::totals::{ConnectorTotals, Telling, place_for, places, tell_accounts};
+use ilpstream_connector::{ConnectorEnded, Counts, MOST_THREADS, Minutes, connector_on};
+use ilpstream_serving::{ConnectTerms, Neighbour};
 use sqlite_trees::store::Alter;
 use st_books::Books;
 use st_commands::{Fault, TURNS};
@@ -30,9 +32,6 @@ use st_ledger::{LedgerError, OpensBooks, Placed, Watched, Watcher};
 use st_links::Keeper;
 use st_log::{Event, Start};
 use st_settings::{ConnectorSettings, Table};
-use st_transfer::{
-    ConnectTerms, ConnectorEnded, Counts, MOST_THREADS, Minutes, Neighbour, connector_on,
-};
 use std::alloc::Global;
 use std::fs::{File, Files};
 use std::io::Read;

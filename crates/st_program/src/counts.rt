@@ -3,7 +3,7 @@
 ghost use Rattle.std.specs.Prelude.{◌≡◌, IfOk, string_bytes};
 ghost use Rattle.st_program.specs.Totals as spec;
 
-use st_transfer::{AccountCounts, CodeCount, Counts};
+use ilpstream_connector::{AccountCounts, CodeCount, Counts};
 use std::alloc::{AllocError, Global};
 
 /// The first half of the line of the account of this number.

@@ -4,10 +4,10 @@ ghost use Rattle.std.specs.Prelude.{◌≡◌};
 ghost use Rattle.st_program.specs.Errors as errors;
 ghost use Rattle.st_program.specs.Local as local;
 
+use ilpstream_serving::TransferError;
 use st_commands::Fault;
 use st_ledger::LedgerError;
 use st_local::LocalFault;
-use st_transfer::TransferError;
 use std::alloc::AllocError;
 use thiserror::Error;
 

@@ -13,13 +13,13 @@ ghost use Rattle.st_program.specs.Ways.{these, way_in, way_of};
 ghost use Rattle.st_program.specs.declared.error.RunError.TheVariants.{BadTable, NoHop};
 
 use crate::error::RunError;
+use ilpstream_serving::Neighbour;
 use sqlite_trees::store::Alter;
 use st_books::Books;
 use st_commands::Fault;
 use st_hop::{Account, HopError, HopState, Route};
 use st_ledger::{Life, added_names_owe_nothing, place};
 use st_settings::{AccountLine, Table};
-use st_transfer::Neighbour;
 use std::alloc::{AllocError, Global};
 
 /// The hop of this address with these accounts and routes. Fails with `BadTable` if no hop may have them. Otherwise it

@@ -10,6 +10,7 @@ ghost use Rattle.st_program.specs.Ledger as specs;
 ghost use Rattle.st_program.specs.declared.error.RunError.TheVariants as run;
 
 use crate::error::RunError;
+use ilpstream_serving::RuntimeClock;
 use sqlite_trees::store::Alter;
 use st_books::{Amounts, Books, Entry, Kind, Side};
 use st_commands::{TURNS, put};
@@ -19,7 +20,6 @@ use st_ledger::{
 };
 use st_links::Clock;
 use st_settings::{LedgerSettings, Payment};
-use st_transfer::RuntimeClock;
 use std::alloc::{AllocError, Global};
 use std::io::Write;
 

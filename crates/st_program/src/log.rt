@@ -8,11 +8,12 @@ ghost use Rattle.st_program.specs.declared.error.RunError.TheVariants.{BadOption
 use crate::error::RunError;
 use crate::obstacle::{Cause, Obstacle, Step, cause_of, words_of};
 use crate::totals::ended_with;
+use ilpstream_connector::{AccountTotals, Counts};
+use ilpstream_serving::{LogFile, RuntimeClock, log_anew, log_in};
 use st_commands::Fault;
 use st_ilp::Moment;
 use st_log::{AccountCounts, EndCounts, Event};
 use st_settings::{TableFault, WholeFault, table_fault, whole_fault};
-use st_transfer::{AccountTotals, Counts, LogFile, RuntimeClock, log_anew, log_in};
 use std::alloc::Global;
 use std::fs::{File, Files, OpenOptions};
 use std::io;
@@ -141,7 +142,10 @@ pub(crate) fn tell_minute<N: Clock>(rt: &N, log: Log<'_>, totals: &st_end::Total
 }
 
 /// What the log has of an account whose totals and whose Prepares' ends are these.
-fn account_counts(totals: AccountTotals, counts: st_transfer::AccountCounts) -> AccountCounts
+fn account_counts(
+    totals: AccountTotals,
+    counts: ilpstream_connector::AccountCounts,
+) -> AccountCounts
     ensures owed { (result.claims ≡ totals.claims) × (result.dues ≡ totals.dues) × (result.held ≡ totals.held) }
     ensures ends { (result.fulfilled ≡ counts.fulfilled) × (result.rejected ≡ counts.rejected) × (result.lost ≡ counts.lost) × (result.refused ≡ counts.refused) }
 {

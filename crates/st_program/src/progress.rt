@@ -7,12 +7,12 @@ ghost use Rattle.st_end.specs.Seen.{totals_seen};
 ghost use Rattle.st_program.specs.Progress as spec;
 
 use crate::log::{Log, tell_minute};
+use ilpstream_serving::Watch;
 use libc::net::{POLLOUT, poll};
 use libc::types::pollfd;
 use libc::{isatty, write};
 use st_end::Totals;
 use st_log::{Blocked, Brief, Progress, shown};
-use st_transfer::Watch;
 use std::alloc::Global;
 use std::fs;
 use std::fs::{File, Files};

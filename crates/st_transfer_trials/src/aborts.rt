@@ -2,15 +2,14 @@
 
 use crate::sides::{TOKEN, TURNS, receive, sender, with_money};
 use crate::transfers::{Place, listen};
+use ilpstream_serving::{HttpLink, RuntimeClock, TransferError};
 use st_devices::Counting;
 use st_end::{EndState, Flight};
 use st_file::FileError;
 use st_http::is_field_text;
 use st_ilp::Moment;
-use st_link::HttpLink;
 use st_links::{Clock, Link};
 use st_oer::Rate;
-use st_transfer::{RuntimeClock, TransferError};
 use std::alloc::Global;
 use std::net::Net;
 use std::thread;

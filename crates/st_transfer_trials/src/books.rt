@@ -4,13 +4,13 @@ ghost use Rattle.std.specs.Prelude.{⊤};
 
 use crate::sides::{TOKEN, TURNS, connect_storing};
 use crate::transfers::{Place, listen, use_up};
+use ilpstream_connector::{ConnectorEnded, MOST_THREADS};
+use ilpstream_serving::{HttpLink, TransferError};
 use st_devices::Counting;
 use st_hop_desk::Till;
 use st_http::{Answerer, is_field_text, serve_one};
 use st_ilp::Moment;
-use st_link::HttpLink;
 use st_links::{Booking, Keeper, Link};
-use st_transfer::{ConnectorEnded, MOST_THREADS, TransferError};
 use std::alloc::Global;
 use std::net::{Net, TcpListener, TcpStream};
 use std::process::Abort;

@@ -3,9 +3,9 @@
 use crate::sides::{Terms, connect, receive, send, with_money};
 use crate::transfers::{Kept, Place, listen, pattern, transfer, transfer_into};
 use crate::wires::{Door, Seen};
+use ilpstream_serving::TransferError;
 use st_devices::{Counting, FailAt};
 use st_file::FileError;
-use st_transfer::TransferError;
 use std::alloc::Global;
 use std::io;
 use std::io::{ErrorKind, Write};

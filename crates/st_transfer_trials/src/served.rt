@@ -3,8 +3,9 @@
 use crate::books::{FULFILL, PREPARE};
 use crate::sides::{Crossing, connect_telling, usual};
 use crate::wires::{Door, Seen, Wires};
+use ilpstream_connector::NoMinutes;
+use ilpstream_serving::TransferError;
 use st_hop_desk::{NoBooks, Owed, Till};
-use st_transfer::{NoMinutes, TransferError};
 use std::alloc::Global;
 use std::net::{Net, TcpListener, TcpStream};
 use std::process::Abort;

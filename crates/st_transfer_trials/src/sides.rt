@@ -2,6 +2,12 @@
 ghost use Rattle.std.specs.Prelude.{◌≡◌, IfOk};
 ghost use Rattle.st_hub.specs.Hub as hub;
 
+use ilpstream_connector::{ConnectorEnded, Minutes, NoMinutes, connector_on};
+use ilpstream_ends::{client_end, receive_on, send_on, server_end};
+use ilpstream_serving::{
+    AwaitListener, ConnectTerms, Ended, Neighbour, NoWatch, ReceiveTerms, RuntimeClock, SendTerms,
+    TransferError,
+};
 use st_devices::Counting;
 use st_end::{EndState, Totals};
 use st_hop::{Account, HopError, HopState, Route};
@@ -9,11 +15,6 @@ use st_hop_desk::{NoBooks, Owed, Till};
 use st_links::Keeper;
 use st_oer::{Rate, is_address};
 use st_sender::EndConfig;
-use st_transfer::{
-    AwaitListener, ConnectTerms, ConnectorEnded, Ended, Minutes, Neighbour, NoMinutes, NoWatch,
-    ReceiveTerms, RuntimeClock, SendTerms, TransferError, client_end, connector_on, receive_on,
-    send_on, server_end,
-};
 use std::alloc::Global;
 use std::io;
 use std::io::{Read, Write};

@@ -2,12 +2,11 @@
 
 use crate::sides::{TOKEN, Terms, receive, with_money};
 use crate::wires::{Door, Seen, Wires};
+use ilpstream_serving::{HttpLink, RuntimeClock, TransferError};
 use st_devices::Counting;
 use st_http::is_field_text;
 use st_ilp::Moment;
-use st_link::HttpLink;
 use st_links::{Clock, Link};
-use st_transfer::{RuntimeClock, TransferError};
 
 /// A network of which no connection brings a byte.
 fn silent<'a, R>(rt: &'a R, seen: &'a Seen) -> Wires<'a, R> {

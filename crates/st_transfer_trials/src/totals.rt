@@ -5,9 +5,10 @@ use crate::sides::{
     Counter, connect_storing, nothing_yet, receive_telling, send_telling, with_money,
 };
 use crate::transfers::{Place, listen, pattern, use_up};
+use ilpstream_connector::{AccountTotals, ConnectorEnded};
+use ilpstream_serving::TransferError;
 use st_devices::Counting;
 use st_end::Totals;
-use st_transfer::{AccountTotals, ConnectorEnded, TransferError};
 use std::alloc::Global;
 use std::net::{Net, TcpListener, TcpStream};
 use std::process::Abort;

@@ -1,8 +1,8 @@
 //! A receiver and a sender at work together, each in a thread.
 
 use crate::sides::{Counter, Terms, receive, send};
+use ilpstream_serving::TransferError;
 use st_devices::Counting;
-use st_transfer::TransferError;
 use std::alloc::Global;
 use std::io::{Read, Write};
 use std::net::{Net, TcpListener, TcpStream};

@@ -1,0 +1,3 @@
+pub mod Lobby
+pub mod Keeping
+pub mod Outcomes

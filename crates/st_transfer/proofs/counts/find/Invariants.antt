@@ -1,7 +1,0 @@
-use Rattle.std.proofs.Common.{◌≡◌, ◌<◌, ℕ, slice_get, Some}
-use Rattle.st_transfer.specs.declared.counts.CodeCount.{CodeCount}
-use Rattle.st_transfer.specs.Counts.{rank_of}
-use Rattle.st_transfer.proofs.counts.find.Given as goal
-
-abbrev pub invariant-loop-place : goal.invariant-loop-place
-invariant-loop-place l = (k : ℕ) (x : CodeCount) → k < l.place → slice_get l.codes k ≡ Some x → rank_of x < l.rank_of

@@ -1,5 +1,0 @@
-use Rattle.st_transfer.proofs.Outcomes.{sent_whole}
-use Rattle.st_transfer.proofs.send.transfer.Goals as goal
-
-pub returns-clause-whole : goal.returns-clause-whole
-returns-clause-whole g c = sent_whole _ _ _ _ _ _ c.told-result.ensures c.feed_beside-fed.ensures
