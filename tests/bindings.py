@@ -1,8 +1,8 @@
 #!/usr/bin/env python3
 """Checks the bindings for C, Rust and Python: bind/.
 
-The exports of crates/st_c/src are compared, type by type and field by field, with bind/c/ilpstream.h, with the declarations of
-bind/rust and with those of bind/python; the numbers of the header with crates/st_embed, docs/ERRORS.md, bind/rust and
+The exports of crates/ilpstream_c/src are compared, type by type and field by field, with bind/c/ilpstream.h, with the declarations of
+bind/rust and with those of bind/python; the numbers of the header with crates/host_objects, docs/ERRORS.md, bind/rust and
 bind/python; bind/c/calls.c with what bind/calls writes for the header. Then one difference is planted in each of them, which the
 comparison has to find.
 
@@ -35,7 +35,7 @@ from peers import HOST, free_ports
 from repository import BUILT, TOP, files, kit, read, read_bytes, write, write_bytes
 
 HEADER, GUARDED, MEMORY = "bind/c/ilpstream.h", "bind/c/calls.c", "bind/c/ilpstream_memory.h"
-ERRORS, CODES = "docs/ERRORS.md", "crates/st_embed/src/code.rt"
+ERRORS, CODES = "docs/ERRORS.md", "crates/host_objects/src/code.rt"
 RUST, PYTHON = "bind/rust/src", "bind/python/ilpstream/_declared.py"
 # The numbers that only bind/c/calls.c returns, in front of the proved calls: those of handles and of null pointers.
 GUARDS = {"BUSY": 108, "NULL": 109}
@@ -47,7 +47,7 @@ VERSIONS = {
     "bind/rust/Cargo.toml": r'(?m)^version = "(.*)"',
     "bind/python/pyproject.toml": r'(?m)^version = "(.*)"',
     "bind/python/ilpstream/__init__.py": r'__version__ = "(.*)"',
-    "crates/st_words/src/program.rt": r'VERSION: &str = "(.*)"',
+    "crates/ilpstream_words/src/program.rt": r'VERSION: &str = "(.*)"',
 }
 SECONDS = 600
 # How long the archive may take, of which one crate is proved.
@@ -123,7 +123,7 @@ def rust_calls(text, pattern):
 
 
 def exports(text):
-    """The calls that crates/st_c exports."""
+    """The calls that crates/ilpstream_c exports."""
     return rust_calls(text, r'#\[unsafe\(no_mangle\)\]\s*pub extern "C" fn (\w+)\((.*?)\)(?: -> (\w+))?\s*(?=ensures|\{|\n)')
 
 
@@ -261,9 +261,9 @@ def numbers(texts):
 
 def differences(texts):
     """What is not the same in the declarations, as lines."""
-    real = exports(texts["crates/st_c"])
+    real = exports(texts["crates/ilpstream_c"])
     if len(real) < 26:
-        yield f"crates/st_c: only {len(real)} exports were read"
+        yield f"crates/ilpstream_c: only {len(real)} exports were read"
     for where, declared, seen in (
         (HEADER, declared_c(texts[HEADER]), guarded),
         (RUST, declared_rust(texts["bind/rust"]), guarded),
@@ -294,7 +294,7 @@ def written_calls(header):
 
 def all_texts():
     return {
-        "crates/st_c": sources("crates/st_c/src/**/*.rt"),
+        "crates/ilpstream_c": sources("crates/ilpstream_c/src/**/*.rt"),
         "bind/rust": sources("bind/rust/src/**/*.rs"),
         "bind/python": sources("bind/python/ilpstream/*.py"),
         **{path: read(path) for path in (HEADER, GUARDED, MEMORY, PYTHON, CODES, ERRORS, *VERSIONS)},
@@ -312,7 +312,7 @@ PLANTED = [
     (PYTHON, '"ilp_end_close": (c_uint32, (_handle, c_uint32))', '"ilp_end_close": (c_uint32, (_handle, c_uint64))'),
     (PYTHON, '("limit", c_uint64), ("max_packet", c_uint64)', '("max_packet", c_uint64), ("limit", c_uint64)'),
     ("bind/python", "    IDLE = 100\n", "    IDLE = 99\n"),
-    ("crates/st_c", "fn ilp_hop_abandon(", "fn ilp_hop_give_up("),
+    ("crates/ilpstream_c", "fn ilp_hop_abandon(", "fn ilp_hop_give_up("),
     (CODES, "UNKNOWN: u32 = 104", "UNKNOWN: u32 = 110"),
     (GUARDED, "    if (is_missing(bytes, len, sizeof *bytes)) return ILP_NULL;\n", ""),
     (GUARDED, "    wipe_making();\n", ""),
@@ -684,7 +684,7 @@ def main():
     count = Count()
     compare(count)
     if "--look" not in sys.argv[1:]:
-        archive = os.path.realpath(sys.argv[1]) if sys.argv[1:] else f"{TOP}/crates/st_c/out/libst_c.a"
+        archive = os.path.realpath(sys.argv[1]) if sys.argv[1:] else f"{TOP}/crates/ilpstream_c/out/libilpstream_c.a"
         room = tempfile.mkdtemp()
         try:
             out = f"{TOP}/bind/out"

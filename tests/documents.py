@@ -39,12 +39,12 @@ OTHERS = {
     "numbers of a format": {
         "st_frames": "CONNECTION_CLOSE CONNECTION_NEW_ADDRESS CONNECTION_MAX_DATA CONNECTION_DATA_BLOCKED STREAM_CLOSE "
         "STREAM_MONEY STREAM_MAX_MONEY STREAM_MONEY_BLOCKED STREAM_DATA STREAM_MAX_DATA STREAM_DATA_BLOCKED VERSION",
-        "st_books": "HEADER_LEN FRAME_HEADER_LEN VERSION BEGUN LEAST_LEN EMPTY_LEN USED COMMITS LIST "
+        "st_hop_books": "HEADER_LEN FRAME_HEADER_LEN VERSION BEGUN LEAST_LEN EMPTY_LEN USED COMMITS LIST "
         "IDENTITY_LEN BEFORE_IDENTITY BEFORE_ADDRESS AFTER_ADDRESS",
-        "st_commands": "PREPARE",
+        "ilpstream_frames": "PREPARE",
         "st_end": "PREPARE FULFILL REJECT",
         "st_ilp": "PREPARE FULFILL REJECT",
-        "st_c": "FULFILL REJECT",
+        "ilpstream_c": "FULFILL REJECT",
     },
     "places of an array, one more than the streams, or one for each number of a byte": {
         "st_receiver": "PLACES",
@@ -54,7 +54,7 @@ OTHERS = {
         "st_queues": "WRITE_RINGS",
     },
     "numbers of errors of Linux": {"ilpstream_serving": "EMFILE ENFILE"},
-    "numbers that calls return": {"st_embed": "DONE IDLE MISUSE ARGUMENT ROOM UNKNOWN ENDED ABORTED ONWARD"},
+    "numbers that calls return": {"host_objects": "DONE IDLE MISUSE ARGUMENT ROOM UNKNOWN ENDED ABORTED ONWARD"},
     "the number of the one stream that `send` and `receive` use": {"ilpstream_ends": "STREAM"},
 }
 
@@ -184,7 +184,7 @@ def check_names(count):
 
 def check_help(count):
     """The end of each command's help: the faults that the document has for it, and the refusals of a line of `frames`."""
-    where, path = "docs/ERRORS.md", "crates/st_words/src/texts.rt"
+    where, path = "docs/ERRORS.md", "crates/ilpstream_words/src/texts.rt"
     text, rows = read(path), rows_of(where, "Fault", count)
     header = next(header for header, _ in tables(where) if header[0] == "Fault")
     documented = {name.strip("`"): [cells[0] for _, cells in rows if cells[place]] for place, name in enumerate(header) if place}
@@ -254,7 +254,7 @@ def check_codes(count):
 
 def check_calls(count):
     """The numbers that calls of the library for C return, and their names."""
-    where, path = "docs/ERRORS.md", "crates/st_embed/specs/Codes.antt"
+    where, path = "docs/ERRORS.md", "crates/host_objects/specs/Codes.antt"
     defined = {int(number): name.upper() for name, number in re.findall(r"^(\w+) = (\d+)$", read(path), re.M)}
     count.check(len(defined) > 8, f"{path}: only {len(defined)} numbers were read")
     # (those of handles and null pointers, which bind/c/calls.c returns in front of the proved calls)

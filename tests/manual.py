@@ -1,6 +1,6 @@
 #!/usr/bin/env python3
 """Checks the man page and the completions of share/, and what ./ilpstream --install puts below a prefix. It needs no built
-program: the options of each command are read from crates/st_words, and a script is installed in the program's place.
+program: the options of each command are read from crates/ilpstream_words, and a script is installed in the program's place.
 
 Each option of a command's help is in its section of the page and in its completions, and there are no others. The shells read
 their files: bash here, zsh and fish if they are installed; bash completes some lines. groff or mandoc reads the page without a
@@ -16,7 +16,7 @@ import tempfile
 
 from repository import BUILT, TOP, read, write
 
-PROGRAM = "crates/st_words/src/program.rt"
+PROGRAM = "crates/ilpstream_words/src/program.rt"
 PAGE = "share/man/man1/ilpstream.1"
 BASH = "share/bash-completion/completions/ilpstream"
 ZSH = "share/zsh/site-functions/_ilpstream"
@@ -38,7 +38,7 @@ def said(words, **how):
 # ---- the options of the help
 
 FUNCTION = re.compile(r"^(?:pub\(crate\) )?fn (\w+)\b.*?^\{\n(.*?)^\}", re.M | re.S)
-TEXTS = "crates/st_words/src/texts.rt"
+TEXTS = "crates/ilpstream_words/src/texts.rt"
 # An option is made with its name: number(alloc, "hops", ..), with_required(alloc, command, "to", ..).
 MADE = re.compile(r'\b(?:number|ranged|option|flag|with_required|with_optional|with_money)\(\s*alloc,\s*(?:command,\s*)?"([\w-]+)"')
 

@@ -93,13 +93,13 @@ def the_help_ends_with_the_faults_of(play, command):
 
 EXPLAINED = {
     "97": """\
-97  st_local LocalFault::Events, in local
+97  ilpstream_local LocalFault::Events, in local
     In `local`: 1,000,000 events were not enough.
     What to do: Use fewer hops, or lose fewer Prepares.
 """,
     # (two errors)
     "084": """\
-84  st_local LocalFault::TooLong, in local
+84  ilpstream_local LocalFault::TooLong, in local
     In `local`: the input has more than 1,048,576 bytes.
     What to do: Give it less.
 Numbers of the library:
@@ -116,7 +116,7 @@ Numbers of the library:
 """,
     # (of a line)
     "95": """\
-95  st_commands LineError::NotHex, in a line of frames
+95  ilpstream_frames LineError::NotHex, in a line of frames
     In `frames`: a character is not a hexadecimal digit, or the number of digits is odd.
     What to do: Remove byte order marks, `0x`, spaces and tabs.
 """,
@@ -131,13 +131,13 @@ def all_is_printed_that_explains(play, number):
 
 # Faults of each command, by their first lines.
 FIRST_LINES = [
-    ("90", "st_commands Fault::Input, in frames, local, send, connector"),
-    ("58", "st_local LocalFault::Failed, in local"),
+    ("90", "ilpstream_frames Fault::Input, in frames, local, send, connector"),
+    ("58", "ilpstream_local LocalFault::Failed, in local"),
     ("58", "ilpstream_serving TransferError::Failed, in send"),
     ("88", "ilpstream_serving TransferError::Silent, in receive"),
-    ("96", "st_program RunError::BadTable, in connector"),
-    ("116", "st_books BooksError::NoAccount, in ledger"),
-    ("91", "st_commands Fault::Output, in frames, local, send, receive, connector, ledger, explain"),
+    ("96", "ilpstream_main RunError::BadTable, in connector"),
+    ("116", "st_hop_books BooksError::NoAccount, in ledger"),
+    ("91", "ilpstream_frames Fault::Output, in frames, local, send, receive, connector, ledger, explain"),
 ]
 
 

@@ -20,9 +20,9 @@ from crates import BUILT, TOP, kit, read_crates, with_below, words
 PROGRAM = "ilpstream"
 # The processor's seconds that each crate takes from nothing, by the table in docs/GATE.md; those that are not here take OTHER.
 WEIGHTS = {
-    "ilpstream_serving": 396, "st_world": 331, "st_books": 330, "st_sender": 320, "st_hub": 244, "st_words": 227, "st_receiver": 226,
-    "st_program": 219, "st_hop": 212, "st_world_parts": 203, "st_commands": 185, "st_end": 184, "st_local": 178, "st_http": 167,
-    "st_aes": 152, "ilpstream": 150, "st_settings": 147, "st_hop_desk": 120, "st_ledger": 105, "st_oer": 103, "st_queues": 103,
+    "ilpstream_serving": 396, "st_world": 331, "st_hop_books": 330, "st_sender": 320, "st_hub": 244, "ilpstream_words": 227, "st_receiver": 226,
+    "ilpstream_main": 219, "st_hop": 212, "st_world_parts": 203, "ilpstream_frames": 185, "st_end": 184, "ilpstream_local": 178, "st_http": 167,
+    "st_aes": 152, "ilpstream": 150, "ilpstream_settings": 147, "st_hop_desk": 120, "ilpstream_ledger": 105, "st_oer": 103, "st_queues": 103,
     "st_frames": 103, "st_ilp": 102, "st_unacked": 75, "st_reassembly": 69, "st_file": 67, "ilpstream_serving": 56, "st_keys": 39,
     "st_world": 21, "st_links": 16, "st_streams": 10,
 }

@@ -16,7 +16,7 @@ import textwrap
 from crates import TOP, read, write
 
 DOCUMENT = "docs/COMMANDS.md"
-SOURCE = "crates/st_words/src/program.rt"
+SOURCE = "crates/ilpstream_words/src/program.rt"
 PAGE = "share/man/man1/ilpstream.1"
 BASH = "share/bash-completion/completions/ilpstream"
 ZSH = "share/zsh/site-functions/_ilpstream"

@@ -1,7 +1,7 @@
 //! The program `ilpstream`.
 #![tactic(auto)]
 
-use st_program::ilpstream;
+use ilpstream_main::ilpstream;
 use std::process::ExitCode;
 
 fn main(rt: HostRuntime) -> ExitCode {

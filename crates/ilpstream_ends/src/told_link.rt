@@ -3,13 +3,13 @@
 ghost use Rattle.std.specs.Prelude.{◌≡◌};
 ghost use Rattle.ilpstream_serving.specs.Telling.{end_told, wait_told};
 
+use ilpstream_log::{Blocked as At, Cause, Event};
 use ilpstream_serving::{HttpLink, Latest, Log, cause_in, cause_of, tell};
 use st_devices::Counted;
 use st_end::{Failed, FailedKind};
 use st_hub::Observer;
 use st_ilp::Moment;
 use st_links::{Link, LinkFault};
-use st_log::{Blocked as At, Cause, Event};
 use st_sender::Blocked;
 use std::alloc::Global;
 use std::net::Net;

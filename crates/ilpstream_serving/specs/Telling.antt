@@ -10,17 +10,17 @@ use Rattle.st_sender.specs.Answering.{f08}
 use Rattle.st_sender.specs.declared.notice.Blocked as sender
 use Rattle.st_sender.specs.declared.notice.Blocked.TheVariants as stops
 use Rattle.st_end.specs.Failed.{Failed, Lost as NoneCame, Unreadable, Unfit, Rejected}
-use Rattle.st_log.specs.declared.event.Event.{Event}
-use Rattle.st_log.specs.declared.event.Event.TheVariants as event
-use Rattle.st_log.specs.declared.event.Blocked.{Blocked}
-use Rattle.st_log.specs.declared.event.Blocked.TheVariants as limit
+use Rattle.ilpstream_log.specs.declared.event.Event.{Event}
+use Rattle.ilpstream_log.specs.declared.event.Event.TheVariants as event
+use Rattle.ilpstream_log.specs.declared.event.Blocked.{Blocked}
+use Rattle.ilpstream_log.specs.declared.event.Blocked.TheVariants as limit
 use Rattle.ilpstream_serving.specs.declared.watching.Reached.{Reached}
-use Rattle.st_log.specs.declared.event.Cause.{Cause}
-use Rattle.st_log.specs.declared.event.Cause.TheVariants as cause
-use Rattle.st_log.specs.declared.event.Unreached.{Unreached}
-use Rattle.st_log.specs.declared.event.Unreached.TheVariants as unreached
-use Rattle.st_log.specs.declared.event.Lost.{Lost}
-use Rattle.st_log.specs.declared.event.Lost.TheVariants as lost
+use Rattle.ilpstream_log.specs.declared.event.Cause.{Cause}
+use Rattle.ilpstream_log.specs.declared.event.Cause.TheVariants as cause
+use Rattle.ilpstream_log.specs.declared.event.Unreached.{Unreached}
+use Rattle.ilpstream_log.specs.declared.event.Unreached.TheVariants as unreached
+use Rattle.ilpstream_log.specs.declared.event.Lost.{Lost}
+use Rattle.ilpstream_log.specs.declared.event.Lost.TheVariants as lost
 
 -- why no connection was made
 abbrev pub unreached_told : links.Unreached → Unreached

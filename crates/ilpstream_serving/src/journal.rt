@@ -1,6 +1,6 @@
 //! The log of a command, in a file.
 
-use st_log::Journal;
+use ilpstream_log::Journal;
 use std::alloc::{AllocError, Global};
 use std::fs::File;
 use std::os::fd::AsRawFd;

@@ -2,17 +2,17 @@
 
 ghost use Rattle.std.specs.Prelude.{◌≡◌, IfOk, None, string_bytes};
 ghost use Rattle.std.specs.Net.Text.{socket_text};
-ghost use Rattle.st_log.specs.declared.progress.Brief.TheVariants.{Reject};
+ghost use Rattle.ilpstream_log.specs.declared.progress.Brief.TheVariants.{Reject};
 ghost use Rattle.ilpstream_serving.specs.Telling.{cause_told, lost_told, unreached_told};
 
 use crate::cause::{LinkCause, Unreached};
 use crate::clock::moment_now;
 use crate::error::TransferError;
 use crate::journal::LogFile;
+use ilpstream_log::{Brief, Cause, Event, Lost, Unreached as Why};
 use st_file::FileError;
 use st_ilp::{Answer, read_answer};
 use st_links::Outcome;
-use st_log::{Brief, Cause, Event, Lost, Unreached as Why};
 use std::alloc::{AllocError, Global};
 use std::net::SocketAddr;
 use std::time::Clock;

@@ -3,8 +3,8 @@
 ghost use Rattle.std.specs.Prelude.{◌≡◌};
 ghost use Rattle.ilpstream_serving.specs.Telling as spec;
 
+use ilpstream_log::{Blocked, Brief};
 use st_end::Totals;
-use st_log::{Blocked, Brief};
 use std::sync::Mutex;
 use std::time::Duration;
 

@@ -1,8 +1,8 @@
 //! `local` over devices of which a call fails, and with too few I/O calls.
 
 use crate::local::settings;
+use ilpstream_local::{LocalFault, LocalSends, play_local, run_local};
 use st_devices::{CountRead, CountWrite, FailAt};
-use st_local::{LocalFault, LocalSends, play_local, run_local};
 use std::alloc::Global;
 use std::process::Abort;
 

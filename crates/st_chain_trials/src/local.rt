@@ -2,9 +2,9 @@
 
 ghost use Rattle.std.specs.Prelude.{◌≡◌, ◌<◌, ◌≤◌};
 
+use ilpstream_local::run_local;
+use ilpstream_settings::LocalSettings;
 use st_devices::{CountRead, CountWrite};
-use st_local::run_local;
-use st_settings::LocalSettings;
 use std::alloc::{Allocator, Global};
 
 /// The result of a run: its status, what it wrote, and the fault that it printed.

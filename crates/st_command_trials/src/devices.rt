@@ -1,7 +1,7 @@
 //! The command `frames` over devices that move few bytes a call, fail or interrupt: what it answers, how often it calls them,
 //! and what it had flushed when a call failed.
 
-use st_commands::{Fault, Lines, answer_frames, run_frames};
+use ilpstream_frames::{Fault, Lines, answer_frames, run_frames};
 use st_devices::{CountRead, CountWrite};
 use st_oer::utf8;
 use std::alloc::{Allocator, Global};

@@ -1,8 +1,8 @@
 //! Lines of the log, with dates from Python's `datetime`, and journals over devices.
 
 use crate::devices::Faulty;
+use ilpstream_log::{Blocked, Brief, Cause, Event, Journal, Lost, Progress, line, shown};
 use st_ilp::Moment;
-use st_log::{Blocked, Brief, Cause, Event, Journal, Lost, Progress, line, shown};
 use std::alloc::{AllocError, Global};
 use std::io;
 use std::io::{ErrorKind, Write};

@@ -1,7 +1,7 @@
 //! A connector's table.
 
+use ilpstream_settings::{TableError, WholeFault, WholeRule, read_table, whole_fault};
 use refusing::Refusing;
-use st_settings::{TableError, WholeFault, WholeRule, read_table, whole_fault};
 use std::alloc::Global;
 
 /// Three accounts, one of them with a name, and three routes, with an empty line, a line of a space, and a line that ends

@@ -1,6 +1,6 @@
 //! The command `frames` over a reader and two writers.
 
-use st_commands::run_frames;
+use ilpstream_frames::run_frames;
 use st_devices::{CountRead, CountWrite};
 use std::alloc::Allocator;
 

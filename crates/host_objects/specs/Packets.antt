@@ -1,0 +1,85 @@
+-- A plain STREAM packet and its frames, as a host has them.
+use Rattle.std.specs.Prelude.{◌≡◌, ◌⊎◌, ◌≤◌, ◌++◌, ◌∷◌, ◌&&◌, ℕ, Bool, true, false, nat_le, List, [], length, map, Ok, Err, string_bytes}
+use Rattle.st_frames.specs.declared.error.FrameError.{FrameError}
+use Rattle.st_frames.specs.declared.error.FrameError.TheVariants.{NoMemory, FrameFormat}
+use Rattle.st_frames.specs.Frames.{Known, Packet}
+use Rattle.st_frames.specs.Frames as known
+use Rattle.st_frames.specs.Reading.{packet_at}
+use Rattle.st_frames.specs.Written.{is_unwritable}
+use Rattle.host_objects.specs.declared.frame.KeptFrame.{KeptFrame}
+use Rattle.host_objects.specs.declared.frame.KeptFrame.TheVariants.{ConnectionClose, ConnectionNewAddress, ConnectionMaxData, ConnectionDataBlocked, StreamClose, StreamMoney, StreamMaxMoney, StreamMoneyBlocked, StreamData, StreamMaxData, StreamDataBlocked}
+use Rattle.host_objects.specs.declared.packet.PacketKind.{PacketKind}
+use Rattle.host_objects.specs.declared.packet.PacketKind.TheVariants.{Prepare, Fulfill, Reject}
+use Rattle.host_objects.specs.declared.packet.PlacedFrame.{PlacedFrame}
+use Rattle.host_objects.specs.declared.packet.HostPacket.{HostPacket}
+
+-- ---- kinds
+
+abbrev pub kind_number : PacketKind → ℕ
+kind_number Prepare = 12
+kind_number Fulfill = 13
+kind_number Reject = 14
+
+-- an ILP packet that may carry a STREAM packet
+abbrev pub is_kind : ℕ → Bool
+is_kind n = nat_le 12 n && nat_le n 14
+
+-- ---- frames
+
+-- a frame's value
+abbrev pub kept : KeptFrame → Known
+kept (ConnectionClose code message) = known.ConnectionClose code (string_bytes message)
+kept (ConnectionNewAddress address) = known.ConnectionNewAddress (string_bytes address)
+kept (ConnectionMaxData max_offset) = known.ConnectionMaxData max_offset
+kept (ConnectionDataBlocked max_offset) = known.ConnectionDataBlocked max_offset
+kept (StreamClose stream code message) = known.StreamClose stream code (string_bytes message)
+kept (StreamMoney stream shares) = known.StreamMoney stream shares
+kept (StreamMaxMoney stream receive_max total_received) = known.StreamMaxMoney stream receive_max total_received
+kept (StreamMoneyBlocked stream send_max total_sent) = known.StreamMoneyBlocked stream send_max total_sent
+kept (StreamData stream offset bytes) = known.StreamData stream offset bytes.items
+kept (StreamMaxData stream max_offset) = known.StreamMaxData stream max_offset
+kept (StreamDataBlocked stream max_offset) = known.StreamDataBlocked stream max_offset
+
+-- a frame with its index
+abbrev pub placed : PlacedFrame → ℕ × Known
+placed p = (p.index, kept p.frame)
+
+-- ---- packets
+
+-- a packet's value
+abbrev pub packet_seen : HostPacket → Packet
+packet_seen p = record { kind = kind_number p.kind; sequence = p.sequence; amount = p.amount; frames = map placed p.frames.items }
+
+-- a packet of these numbers without frames and without output
+pub record IsNewPacket (kind sequence amount : ℕ) (p : HostPacket) : Type 0 where
+  pub packet_is : packet_seen p ≡ record { kind = kind; sequence = sequence; amount = amount; frames = [] }
+  pub output_is : p.output.items ≡ []
+
+-- the packet that the bytes are, without output
+pub record IsReadPacket (kind : ℕ) (bytes : List ℕ) (p : HostPacket) : Type 0 where
+  pub read_is : packet_at kind bytes ≡ Ok (packet_seen p)
+  pub output_is : p.output.items ≡ []
+
+-- only room for more frames may have been made
+pub record IsSamePacket (old new : HostPacket) : Type 0 where
+  pub packet_is : packet_seen new ≡ packet_seen old
+  pub output_is : new.output ≡ old.output
+
+-- these frames follow the others
+pub record AreKept (old new : HostPacket) (more : List (ℕ × Known)) : Type 0 where
+  pub kind_is : new.kind ≡ old.kind
+  pub sequence_is : new.sequence ≡ old.sequence
+  pub amount_is : new.amount ≡ old.amount
+  pub frames_are : map placed new.frames.items ≡ map placed old.frames.items ++ more
+  pub output_is : new.output ≡ old.output
+
+abbrev pub IsKept : (old new : HostPacket) → ℕ × Known → Type 0
+IsKept old new one = AreKept old new (one ∷ [])
+
+-- a frame that can be written is added; its index is the number of those before it
+abbrev pub IsPushed : (old new : HostPacket) → Known → Type 0
+IsPushed old new k = (is_unwritable k ≡ false) × IsKept old new (length old.frames.items, k)
+
+-- the frame cannot be written, or memory for it is refused
+abbrev pub RefusesToPush : (old new : HostPacket) → Known → FrameError → Type 0
+RefusesToPush old new k e = IsSamePacket old new × (((e ≡ FrameFormat (length old.frames.items)) × (is_unwritable k ≡ true)) ⊎ (e ≡ NoMemory))

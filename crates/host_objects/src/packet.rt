@@ -1,0 +1,193 @@
+//! A plain STREAM packet (RFC 0029), whose frames a host adds and takes one by one.
+
+ghost use Rattle.std.specs.Prelude.{◌≡◌, ◌≤◌, ◌⊎◌, ◌++◌, ◌∷◌, [], length, map, slice_get, true, false, None, Some, Ok, Err, OnOk, OnErr, IfOk, MatchOption, MatchResult};
+ghost use Rattle.st_oer.specs.Seen.{Writes};
+ghost use Rattle.st_frames.specs.Reading.{packet_at};
+ghost use Rattle.st_frames.specs.Seen.{seen, seen_at};
+ghost use Rattle.st_frames.specs.Written.{written, is_unwritable};
+ghost use Rattle.host_objects.specs.Packets.{kept, placed, kind_number, is_kind, packet_seen, IsNewPacket, IsReadPacket, IsSamePacket, IsKept, AreKept, IsPushed, RefusesToPush};
+
+use crate::frame::KeptFrame;
+use st_frames::{Frame, FrameError, Frames, StreamPacket, packet_law, read_packet, write_packet};
+use st_oer::is_address;
+use std::alloc::{AllocError, Global};
+
+/// The ILP packet that carries a STREAM packet (RFC 0027).
+#[derive(Clone, Copy, Debug, PartialEq, Eq)]
+pub enum PacketKind {
+    /// Number 12.
+    Prepare,
+    /// Number 13.
+    Fulfill,
+    /// Number 14.
+    Reject,
+}
+
+impl PacketKind {
+    /// The kind of this number: 12, 13 or 14. `None` for every other number.
+    pub fn of(number: u32) -> Option<PacketKind>
+        ensures { MatchOption result (is_kind number ≡ false) (λ kind. (is_kind number ≡ true) × (kind_number kind ≡ number)) }
+    {
+        match number {
+            12 => Some(PacketKind::Prepare),
+            13 => Some(PacketKind::Fulfill),
+            14 => Some(PacketKind::Reject),
+            _ => None,
+        }
+    }
+
+    /// Its number.
+    pub fn number(self) -> u8
+        ensures number { result ≡ kind_number self }
+        ensures from_prepare { 12 ≤ result }
+        ensures to_reject { result ≤ 14 }
+    {
+        match self {
+            PacketKind::Prepare => 12,
+            PacketKind::Fulfill => 13,
+            PacketKind::Reject => 14,
+        }
+    }
+}
+
+/// A frame with its index.
+#[derive(Drop)]
+pub struct PlacedFrame {
+    /// Its index over all frames of the packet that was read; of a frame that was added, how many known frames there were.
+    pub index: u64,
+    /// The frame.
+    pub frame: KeptFrame,
+}
+
+/// A plain packet (RFC 0029, section 5.2), and what the last call returned.
+#[derive(Drop)]
+pub struct HostPacket {
+    /// The ILP packet that carries it.
+    pub kind: PacketKind,
+    /// The sequence number.
+    pub sequence: u64,
+    /// In a Prepare the least amount that the receiver should accept, in a reply the amount that arrived.
+    pub amount: u64,
+    /// The known frames.
+    pub frames: Vec<PlacedFrame>,
+    /// The bytes that the last call returned.
+    pub output: Vec<u8>,
+}
+
+/// Whether a frame has an address that is neither empty nor an ILP address.
+fn is_malformed(frame: Frame<'_>) -> bool
+    ensures { result ≡ is_unwritable (seen frame.entry) }
+{
+    match frame {
+        Frame::ConnectionNewAddress { address } => !address.is_empty() && !is_address(address),
+        _ => false,
+    }
+}
+
+impl HostPacket {
+    /// A packet without frames. Does not allocate.
+    pub fn new(alloc: Global, kind: PacketKind, sequence: u64, amount: u64) -> HostPacket
+        ensures { IsNewPacket (kind_number kind) sequence amount result }
+    {
+        HostPacket {
+            kind,
+            sequence,
+            amount,
+            frames: Vec::new(alloc),
+            output: Vec::new(alloc),
+        }
+    }
+
+    /// Reads all of the bytes as a plain packet that an ILP packet of this kind carried.
+    ///
+    /// Fails as `read_packet` does, and with `NoMemory`.
+    pub fn read(alloc: Global, kind: PacketKind, bytes: &[u8]) -> Result<HostPacket, FrameError>
+        ensures { MatchResult result (λ p. IsReadPacket (kind_number kind) bytes.now p) (λ e. (e ≡ FrameError.NoMemory) ⊎ (packet_at (kind_number kind) bytes.now ≡ Err e)) }
+    {
+        packet_law();
+        let StreamPacket {
+            kind: _,
+            sequence,
+            amount,
+            frames,
+        } = read_packet(bytes, kind.number())?;
+        let mut packet = HostPacket::new(alloc, kind, sequence, amount);
+        packet.keep_all(alloc, frames)?;
+        Ok(packet)
+    }
+
+    /// Adds copies of frames after the others. Fails if memory is refused.
+    fn keep_all(&mut self, alloc: Global, mut frames: Frames<'_>) -> Result<(), AllocError>
+        ensures { OnOk result (AreKept self.old self.new frames.entry) }
+    {
+        while let Some((index, frame)) = frames.next() {
+            self.keep(alloc, index, frame)?;
+        }
+        Ok(())
+    }
+
+    /// Adds a copy of a frame after the others. Fails if memory is refused.
+    fn keep(&mut self, alloc: Global, index: u64, frame: Frame<'_>) -> Result<(), AllocError>
+        ensures { MatchResult result (λ _. IsKept self.old self.new (index, seen frame.entry)) (λ _. IsSamePacket self.old self.new) }
+    {
+        let frame = KeptFrame::of(alloc, frame)?;
+        self.frames.reserve(1)?;
+        self.frames.push_reserved(PlacedFrame { index, frame });
+        Ok(())
+    }
+
+    /// Adds a frame after the others. Its index is how many known frames there were.
+    ///
+    /// Fails with `FrameFormat` of that index if its address is neither empty nor an ILP address, and with `NoMemory`; then
+    /// the packet is as before.
+    pub fn push(&mut self, alloc: Global, frame: Frame<'_>) -> Result<(), FrameError>
+        ensures { MatchResult result (λ _. IsPushed self.old self.new (seen frame.entry)) (λ e. RefusesToPush self.old self.new (seen frame.entry) e) }
+    {
+        let index = self.frames.len() as u64;
+        if is_malformed(frame) {
+            return Err(FrameError::FrameFormat(index));
+        }
+        self.keep(alloc, index, frame)?;
+        Ok(())
+    }
+
+    /// The known frame at a place, with its index. `None` exactly if there are not more than `place` frames.
+    pub fn frame(&self, place: usize) -> Option<(u64, Frame<'_>)>
+        ensures { MatchOption result (slice_get self.now.frames.items place ≡ None) (λ x. (p : PlacedFrame) × ((slice_get self.now.frames.items place ≡ Some p) × (seen_at x ≡ placed p))) }
+    {
+        let PlacedFrame { index, frame } = self.frames.get(place)?;
+        Some((*index, frame.lent()))
+    }
+
+    /// The frames, whose texts and bytes are lent.
+    fn lent(&self, alloc: Global) -> Result<Vec<Frame<'_>>, AllocError>
+        ensures { IfOk result (λ lent. map seen lent.items ≡ map (λ p. kept p.frame) self.now.frames.items) }
+    {
+        let mut frames = Vec::with_capacity(alloc, self.frames.len())?;
+        for placed in &self.frames {
+            frames.push(placed.frame.lent())?;
+        }
+        Ok(frames)
+    }
+
+    /// Outputs the packet's bytes, in the shortest encoding.
+    ///
+    /// Fails as `write_packet` does; then the packet is as before.
+    pub fn write(&mut self, alloc: Global) -> Result<(), FrameError>
+        ensures written { MatchResult result (λ _. written (kind_number self.old.kind) self.old.sequence self.old.amount (map (λ p. kept p.frame) self.old.frames.items) ≡ Ok self.new.output.items) (λ e. (e ≡ FrameError.NoMemory) ⊎ (written (kind_number self.old.kind) self.old.sequence self.old.amount (map (λ p. kept p.frame) self.old.frames.items) ≡ Err e)) }
+        ensures same { packet_seen self.new ≡ packet_seen self.old }
+        ensures unchanged { OnErr result (self.new ≡ self.old) }
+    {
+        let frames = self.lent(alloc)?;
+        let bytes = write_packet(
+            alloc,
+            self.kind.number(),
+            self.sequence,
+            self.amount,
+            &frames,
+        )?;
+        drop(frames);
+        self.output = bytes;
+        Ok(())
+    }
+}

@@ -1,0 +1,44 @@
+use Rattle.std.proofs.Common.{◌<◌, ◌≤◌, [], length, refl, ap, ◌∙◌, arith}
+use Rattle.std.proofs.KnownBytes.{Appends-nil}
+use Rattle.std.proofs.lemmas.List.{length-set}
+use Rattle.ilpstream_frames.specs.Inboxes.{runs_text}
+use Rattle.ilpstream_frames.proofs.Progressing.{writes_all, writes_run, writes_runs_part, writes_whole}
+use Rattle.st_devices.specs.Tallies.{device_of}
+use Rattle.ilpstream_frames.proofs.frames.put_runs.Goals as goal
+
+pub loop-place-init : goal.loop-place-init
+loop-place-init g c = record {
+  count = c.count-place-end.ensures.all;
+  faults = refl;
+  flushed = λ h. h;
+  turns = record { fewer = omega arith; calls = omega arith };
+  written = ([], Appends-nil (g.W.Write.contents (device_of c.args.writer.now)), refl);
+}
+
+pub loop-place-preserved : goal.loop-place-preserved
+loop-place-preserved g c =
+    let here : c.loop-place.place < length c.loop-place.streams = omega (arith, c.loop-place-test.true, c.count-place-end.ensures.count, c.loop-place.invariant.count) in
+    record {
+      count = ap length c.put_run.ensures.others ∙ (length-set c.loop-place.streams c.loop-place.place _ ∙ c.loop-place.invariant.count);
+      faults = c.in_ok-put_run.ensures.faults ∙ c.loop-place.invariant.faults;
+      flushed = λ h. c.in_ok-put_run.ensures.flushed (c.loop-place.invariant.flushed h);
+      turns = record {
+        fewer = omega (arith, c.put_run.ensures.turns.fewer, c.loop-place.invariant.turns.fewer);
+        calls = omega (arith, c.put_run.ensures.turns.calls, c.put_run.ensures.turns.fewer, c.loop-place.invariant.turns.calls, c.loop-place.invariant.turns.fewer);
+      };
+      written =
+          writes_run (g.W.Write.contents (device_of c.args.writer.now)) (g.W.Write.contents (device_of c.loop-place.writer)) (g.W.Write.contents (device_of c.put_run.new.writer)) (runs_text c.args.streams) c.loop-place.place
+          c.loop-place.streams c.put_run.new.streams here c.put_run.ensures.others c.loop-place.invariant.written c.in_ok-put_run.ensures.whole;
+    }
+
+pub returns-in_err-put_run-clause-part : goal.returns-in_err-put_run-clause-part
+returns-in_err-put_run-clause-part g c =
+    let here : c.loop-place.place < length c.loop-place.streams = omega (arith, c.loop-place-test.true, c.count-place-end.ensures.count, c.loop-place.invariant.count) in
+    writes_runs_part (g.W.Write.contents (device_of c.args.writer.now)) (g.W.Write.contents (device_of c.loop-place.writer)) (g.W.Write.contents (device_of c.put_run.new.writer)) (runs_text c.args.streams) c.loop-place.place
+    c.loop-place.streams here c.loop-place.invariant.written c.put_run.ensures.part
+
+pub returns-clause-part : goal.returns-clause-part
+returns-clause-part g c =
+    let all : length c.loop-place.streams ≤ c.loop-place.place = omega (arith, c.loop-place-test.false, c.count-place-end.ensures.count, c.loop-place.invariant.count) in
+    writes_whole (g.W.Write.contents (device_of c.args.writer.now)) (g.W.Write.contents (device_of c.loop-place.writer)) (runs_text c.args.streams)
+    (writes_all (g.W.Write.contents (device_of c.args.writer.now)) (g.W.Write.contents (device_of c.loop-place.writer)) (runs_text c.args.streams) c.loop-place.place c.loop-place.streams all c.loop-place.invariant.written)

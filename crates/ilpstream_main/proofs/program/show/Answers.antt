@@ -1,0 +1,22 @@
+use Rattle.std.proofs.Common.{ap, refl, inl, inr}
+use Rattle.std.specs.Prelude.{Err}
+use Rattle.ilpstream_frames.specs.declared.error.Fault.{Fault}
+use Rattle.ilpstream_frames.specs.Endings.{most_turns}
+use Rattle.ilpstream_frames.proofs.Spending.{ended_by, ended_well, not_the_reader, spends_nothing, spends_writes}
+use Rattle.st_devices.specs.Tallies.{tally_of}
+use Rattle.ilpstream_main.proofs.program.show.Goals as goal
+
+pub returns-in-Ok-put : goal.returns-in-Ok-put
+returns-in-Ok-put g c = λ r.
+    let w = tally_of c.args.writer.now in
+    let v = tally_of c.put.new.writer in
+    let turns = spends_writes r r w w v most_turns most_turns c.put.new.turns (spends_nothing r w most_turns) c.put.ensures.turns in
+    inl (refl, ended_well r r w v c.put.new.turns refl c.in-Ok-put.ensures.faults turns c.in-Ok-put.ensures.flushed, refl)
+
+pub returns : goal.returns
+returns g c = λ r.
+    let w = tally_of c.args.writer.now in
+    let v = tally_of c.put.new.writer in
+    let turns = spends_writes r r w w v most_turns most_turns c.put.new.turns (spends_nothing r w most_turns) c.put.ensures.turns in
+    let same = not_the_reader c.in-Err.fault r.faults (λ is. c.in-Err.ensures.no_input (ap (λ (x : Fault). Err x) is)) in
+    inr (inl (c.in-Err.fault, ended_by r r w v c.in-Err.fault c.put.new.turns same c.in-Err.ensures.faults turns c.in-Err.ensures.out_of_turns, c.tell_fault-in-Err.ensures))

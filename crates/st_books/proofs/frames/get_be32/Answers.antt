@@ -1,7 +1,0 @@
-use Rattle.std.proofs.Common.{refl}
-use Rattle.sqlite_wal.specs.Format.{be32}
-use Rattle.st_books.proofs.frames.get_be32.Goals as goal
-
-pub returns : goal.returns
-unfolding be32
-returns c = refl

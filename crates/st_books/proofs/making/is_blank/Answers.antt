@@ -1,4 +1,0 @@
-use Rattle.st_books.proofs.making.is_blank.Goals as goal
-
-pub returns-in-Ok-clause-found : goal.returns-in-Ok-clause-found
-returns-in-Ok-clause-found g c clean = rw c.requires.size at (c.in-Ok.ensures.ok clean)

@@ -1,8 +1,0 @@
-use Rattle.std.proofs.Common.{◌<◌, arith}
-use Rattle.st_commands.proofs.HexDigits.{at_digit_codes}
-use Rattle.st_commands.proofs.digits.value_of.Goals as goal
-
-pub returns : goal.returns
-returns c =
-    let fits : c.args.character < 256 = omega arith in
-    at_digit_codes c.values.result.now c.args.character c.values.ensures fits

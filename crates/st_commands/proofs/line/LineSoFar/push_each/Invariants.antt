@@ -1,9 +1,0 @@
-use Rattle.std.proofs.Common.{◌≤◌, ◌+◌, ◌++◌, List, ℕ, take}
-use Rattle.st_commands.specs.LineSoFar.{StandsFor}
-use Rattle.st_commands.proofs.line.LineSoFar.push_each.Given as goal
-
-abbrev pub invariant-loop-byte : goal.invariant-loop-byte
-invariant-loop-byte g l = record {
-  stands : (line : List ℕ) → StandsFor l.fn.self line → StandsFor l.self (line ++ take l.byte-index l.bytes);
-  count : l.self.count ≤ l.fn.self.count + l.byte-index;
-}

@@ -1,5 +1,0 @@
-use Rattle.st_commands.proofs.Overs.{counted_none}
-use Rattle.st_commands.proofs.streams.none_named.Goals as goal
-
-pub returns : goal.returns
-returns g c = counted_none c.loop.inboxes.items c.loop.counter c.loop-test.false c.loop.auto.counter-end c.loop.invariant

@@ -1,9 +1,0 @@
-use Rattle.st_commands.specs.Drafts.{StandFor}
-use Rattle.st_commands.proofs.streams.pieces_of.Given as goal
-
-abbrev pub invariant-loop-frame : goal.invariant-loop-frame
-invariant-loop-frame l = record {
-  same : StandFor l.pieces l.frame-iterator l.fn.frames;
-  next : goal.iterator-loop-frame.can_next l.frame-iterator;
-  finite : goal.iterator-loop-frame.is_finite l.frame-iterator;
-}

@@ -1,5 +1,0 @@
-use Rattle.st_commands.proofs.PiecesTold.{stand_for_more}
-use Rattle.st_commands.proofs.streams.with_piece.Goals as goal
-
-pub returns-in_default : goal.returns-in_default
-returns-in_default c = stand_for_more c.args.pieces c.args.frame c.in_default.not-StreamData

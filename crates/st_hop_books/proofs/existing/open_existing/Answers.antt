@@ -1,0 +1,18 @@
+use Rattle.std.proofs.Common.{ℕ, Bool, cond, List, ap₂, subst}
+use Rattle.sqlite_disk.specs.Events.{Event, replay}
+use Rattle.sqlite_wal.specs.Recovery.{Image}
+use Rattle.st_hop_books.specs.Found.{FindsOld}
+use Rattle.st_hop_books.proofs.Steps.{ok_then}
+use Rattle.st_hop_books.proofs.existing.open_existing.Goals as goal
+
+abbrev image : List ℕ → List ℕ → Image
+image log db = record { log = log; db = db }
+
+abbrev seen : List ℕ → List ℕ → Bool → List Event → List ℕ
+seen log db is_log history = (replay (cond is_log log db) history).seen
+
+pub returns : goal.returns
+returns g c =
+    let (log, db) = c.in_ok-files.ensures.fresh in
+    let same = ap₂ image (ap₂ (seen g.S.Start.log g.S.Start.db) log.0 log.1) (ap₂ (seen g.S.Start.log g.S.Start.db) db.0 db.1) in
+    ok_then c.open_existing_files.result _ _ (λ b found now. subst (λ i. FindsOld i b) same (found now)) c.open_existing_files.ensures

@@ -1,8 +1,0 @@
-use Rattle.st_ledger.proofs.Grown.{grown_claims, grown_dues}
-use Rattle.st_ledger.proofs.laws.added_names_owe_nothing.Goals as goal
-
-pub returns-clause-claims : goal.returns-clause-claims
-returns-clause-claims c = grown_claims
-
-pub returns-clause-dues : goal.returns-clause-dues
-returns-clause-dues c = grown_dues

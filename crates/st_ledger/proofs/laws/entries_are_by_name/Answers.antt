@@ -1,5 +1,0 @@
-use Rattle.st_ledger.proofs.Histories.{entered_named}
-use Rattle.st_ledger.proofs.laws.entries_are_by_name.Goals as goal
-
-pub returns : goal.returns
-returns c = entered_named

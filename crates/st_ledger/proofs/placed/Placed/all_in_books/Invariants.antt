@@ -1,6 +1,0 @@
-use Rattle.std.proofs.Common.{◌≡◌, map, take}
-use Rattle.st_ledger.specs.Placed.{in_books}
-use Rattle.st_ledger.proofs.placed.Placed.all_in_books.Given as goal
-
-abbrev pub invariant-loop-booking : goal.invariant-loop-booking
-invariant-loop-booking g l = l.all.items ≡ map (in_books l.self) (take l.booking-index l.bookings)

@@ -1,5 +1,0 @@
-use Rattle.st_log.proofs.Counts.{counted}
-use Rattle.st_log.proofs.laws.events_are_counted.Goals as goal
-
-pub returns : goal.returns
-returns c = counted

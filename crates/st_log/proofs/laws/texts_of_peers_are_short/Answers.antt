@@ -1,5 +1,0 @@
-use Rattle.st_log.proofs.Short.{short}
-use Rattle.st_log.proofs.laws.texts_of_peers_are_short.Goals as goal
-
-pub returns : goal.returns
-returns c = short

@@ -1,5 +1,0 @@
-use Rattle.st_log.specs.Writing.{Writes}
-use Rattle.st_log.proofs.outlet.Outlet.round.Given as goal
-
-abbrev pub invariant-loop : goal.invariant-loop
-invariant-loop g l = Writes g.W.Write.contents l.fn.self l.self

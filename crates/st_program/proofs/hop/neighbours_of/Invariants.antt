@@ -1,6 +1,0 @@
-use Rattle.std.proofs.Common.{◌≡◌, map, take}
-use Rattle.st_program.specs.Ways.{these, way_in}
-use Rattle.st_program.proofs.hop.neighbours_of.Given as goal
-
-abbrev pub invariant-loop-number : goal.invariant-loop-number
-invariant-loop-number l = map way_in l.neighbours.items ≡ these (take l.number l.accounts)

@@ -1,8 +1,0 @@
-use Rattle.std.proofs.Common.{map, take}
-use Rattle.std.specs.List.{AllByRecursion}
-use Rattle.st_settings.specs.Faults.{IsGood}
-use Rattle.st_settings.specs.Table.{words_of}
-use Rattle.st_settings.proofs.fault.first_fault.Given as goal
-
-abbrev pub invariant-loop-index : goal.invariant-loop-index
-invariant-loop-index g l = AllByRecursion (λ w. IsGood (words_of w)) (map (λ w. w.now) (take l.index l.lines))

@@ -1,6 +1,0 @@
-use Rattle.std.proofs.Common.{map, take}
-use Rattle.st_settings.specs.Table.{Says}
-use Rattle.st_settings.proofs.table.read_table.Given as goal
-
-abbrev pub invariant-loop-line : goal.invariant-loop-line
-invariant-loop-line g l = Says (map (λ t. t.now) (take l.line-index l.line-items)) l.table.accounts.items l.table.routes.items
