@@ -32,7 +32,7 @@ from repository import TOP, files, read
 CODE = re.compile(r"`([^`]+)`")
 
 # The crates of the tests and of the measurements: what they count is not a limit of the program.
-TESTS = re.compile(r"^(bench|bench_aes|refusing|\w+_trials)$")
+TESTS = re.compile(r"^(bench|bench_aes|test_refusing|test_\w+)$")
 
 # Constants that are not limits, by crate and name.
 OTHERS = {

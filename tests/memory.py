@@ -18,7 +18,7 @@ from repository import TOP, read
 
 PROGRAM, TABLE = f"{TOP}/tests/memory", f"{TOP}/tests/memory/table.txt"
 NAME = "memory"
-BELOW = "refusing st_oer st_ilp st_frames st_reassembly st_unacked st_queues st_keys st_hop st_hop_desk st_receiver st_sender st_end st_http"
+BELOW = "test_refusing st_oer st_ilp st_frames st_reassembly st_unacked st_queues st_keys st_hop st_hop_desk st_receiver st_sender st_end st_http"
 # More seconds than the program may take once it runs, and than all may take.
 RUN, BOUND = 300, 1_200
 

@@ -1,0 +1,158 @@
+//! Prepares that are opened before the end judges them: with the same answers as in one call, and while memory is refused.
+ghost use Rattle.std.specs.Prelude.{◌≡◌};
+ghost use Rattle.st_end.specs.Opened.{IsOpenedBy};
+
+use crate::ends::{client, moment};
+use st_end::{EndError, EndState, Opened, Received, Role};
+use st_ilp::Moment;
+use st_keys::Keys;
+use st_oer::is_address;
+use st_sender::EndConfig;
+use std::alloc::{Allocator, Global};
+use std::process::Abort;
+use test_refusing::Refusing;
+
+/// The secret of each end here.
+const SECRET: [u8; 32] = [0; 32];
+
+/// A Prepare to "test.b" with two bytes on stream 1 and no money.
+fn prepare(rt: &impl Abort, alloc: Global) -> Vec<u8> {
+    let mut end = client(rt, alloc, 1_000);
+    sure!(rt; end.open_stream() == Ok(1));
+    sure!(rt; end.write(1, b"hi") == Ok(()));
+    match end.send([9; 12], moment(rt)) {
+        Ok(Some((flight, bytes))) => {
+            flight.abandon();
+            bytes
+        }
+        Ok(None) | Err(_) => panic!(rt; "nothing goes"),
+    }
+}
+
+/// A server with these addresses and the same secret, and its keys once more.
+fn end_and_keys<A: Allocator + Copy>(
+    rt: &impl Abort,
+    alloc: A,
+    own: &str,
+    peer: &str,
+) -> (EndState<A>, Keys)
+    ensures { result.0.keys ≡ result.1 }
+{
+    let config = EndConfig::new(16, 1_000, 1_000).expect(rt, "it is allowed");
+    if !is_address(own) || !is_address(peer) {
+        panic!(rt; "no address");
+    }
+    match EndState::new(alloc, Role::Server, Keys::of(SECRET), own, peer, config) {
+        Ok(end) => (end, Keys::of(SECRET)),
+        Err(refused) => panic!(rt; "refused {}", refused.number()),
+    }
+}
+
+/// These bytes, opened while the memory of their text is refused or not.
+fn open<'h>(
+    rt: &impl Abort,
+    heap: &'h Refusing<Global>,
+    keys: &Keys,
+    bytes: &[u8],
+    refuse: bool,
+) -> Opened<&'h Refusing<Global>>
+    ensures { IsOpenedBy keys.now result.bytes.items result }
+{
+    heap.refuse_none();
+    let bytes = Vec::from_slice(heap, bytes).expect(rt, "memory");
+    if refuse {
+        heap.refuse_from(1);
+    }
+    let opened = Opened::of(heap, keys, bytes);
+    sure!(rt; heap.has_refused() == refuse);
+    heap.refuse_none();
+    opened
+}
+
+/// The reason and the amount of an answer.
+fn outcome<A: Allocator + Copy>(
+    answer: Result<Received<A>, EndError>,
+) -> Result<(u8, u64), EndError> {
+    let Received { reason, amount, .. } = answer?;
+    Ok((reason, amount))
+}
+
+/// The answer of the two calls is that of the one.
+#[test]
+fn opened_bytes_are_answered_alike(rt: HostRuntime) {
+    let rt = &rt;
+    let alloc = rt.alloc();
+    let bytes = prepare(rt, alloc);
+    let (mut one, _) = end_and_keys(rt, alloc, "test.b", "test.a");
+    let (mut two, keys) = end_and_keys(rt, alloc, "test.b", "test.a");
+    let again = Vec::from_slice(alloc, &bytes).expect(rt, "memory");
+    let opened = Opened::of(alloc, &keys, again);
+    let whole = one.receive(&bytes, moment(rt)).expect(rt, "memory");
+    let halves = two.receive_opened(&opened, moment(rt)).expect(rt, "memory");
+    sure!(rt; whole.reason == 0 && halves.reason == 0);
+    sure!(rt; whole.amount == halves.amount);
+    sure!(rt; whole.sequence == halves.sequence);
+    sure!(rt; whole.bytes.as_slice() == halves.bytes.as_slice());
+    sure!(rt; one.is_ready(1) && two.is_ready(1));
+}
+
+/// If memory for the text was refused, the payload cannot be judged. A Prepare that an earlier rule rejects is answered.
+#[test]
+fn opening_is_refused_memory(rt: HostRuntime) {
+    let rt = &rt;
+    let bytes = prepare(rt, rt.alloc());
+    let heap = Refusing::new(rt.alloc());
+    let now = moment(rt);
+    let late = Moment::new(1_000_000).expect(rt, "a moment");
+    let (mut end, keys) = end_and_keys(rt, &heap, "test.b", "test.a");
+    let closed = open(rt, &heap, &keys, &bytes, true);
+    sure!(rt; outcome(end.receive_opened(&closed, now)) == Err(EndError::NoMemory));
+    sure!(rt; !end.has_stream(1));
+    let (mut other, keys) = end_and_keys(rt, &heap, "test.c", "test.a");
+    let closed = open(rt, &heap, &keys, &bytes, true);
+    sure!(rt; outcome(other.receive_opened(&closed, now)) == Ok((56, 0)));
+    let (mut third, keys) = end_and_keys(rt, &heap, "test.b", "test.a");
+    let closed = open(rt, &heap, &keys, &bytes, true);
+    sure!(rt; outcome(third.receive_opened(&closed, late)) == Ok((57, 0)));
+}
+
+/// Makes the second call while its request number `n` is refused: whether it makes that request.
+fn judge_while_refused<A: Allocator + Copy>(
+    rt: &impl Abort,
+    heap: &Refusing<Global>,
+    end: &mut EndState<A>,
+    opened: &Opened<A>,
+    n: u64,
+) -> bool
+    requires { IsOpenedBy end.old.keys opened.now.bytes.items opened.now }
+{
+    heap.refuse_only(n);
+    let answer = outcome(end.receive_opened(opened, moment(rt)));
+    let was = heap.has_refused();
+    heap.refuse_none();
+    if was {
+        sure!(rt; answer == Err(EndError::NoMemory));
+        sure!(rt; !end.has_stream(1));
+    } else {
+        sure!(rt; answer == Ok((0, 0)));
+        sure!(rt; end.is_ready(1));
+    }
+    was
+}
+
+#[test]
+fn judging_is_refused_memory(rt: HostRuntime) {
+    let rt = &rt;
+    let bytes = prepare(rt, rt.alloc());
+    let heap = Refusing::new(rt.alloc());
+    for n in 1..1_000_u64 {
+        heap.refuse_none();
+        let (mut end, keys) = end_and_keys(rt, &heap, "test.b", "test.a");
+        let opened = open(rt, &heap, &keys, &bytes, false);
+        if !judge_while_refused(rt, &heap, &mut end, &opened, n) {
+            sure!(rt; n > 2);
+            return;
+        }
+    }
+    panic!(rt; "each request is refused");
+}
