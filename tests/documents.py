@@ -29,10 +29,12 @@ import tomllib
 import repository
 from repository import TOP, files, read
 
+# The name of a crate, by its family.
+CRATE = r"\b(?:st|ilpstream|host)_\w+"
 CODE = re.compile(r"`([^`]+)`")
 
 # The crates of the tests and of the measurements: what they count is not a limit of the program.
-TESTS = re.compile(r"^(bench|bench_aes|test_refusing|test_\w+)$")
+TESTS = re.compile(r"^(bench|bench_aes|test_\w+)$")
 
 # Constants that are not limits, by crate and name.
 OTHERS = {
@@ -284,7 +286,7 @@ def check_lemmas(count):
                 cited.add((other, crate))
     documented = set()
     for line, (below, _, above) in rows_of(where, "Lemmas of", count):
-        below, above = re.findall(r"\bst_\w+", below), re.findall(r"\bst_\w+", above)
+        below, above = re.findall(CRATE, below), re.findall(CRATE, above)
         in_order = "in this order" in read(where).splitlines()[line - 1]
         documented |= set(zip(below, above)) if in_order else {(one, other) for one in below for other in above}
     count.same(where, documented, cited, "crates/*/proofs")
@@ -293,7 +295,7 @@ def check_lemmas(count):
     program = repository.with_below("ilpstream", repository.read_crates())
     count.check(f"**The {len(program)} crates of the program**" in text, f"{where}: the program has {len(program)} crates")
     found = re.search(r"\*\*The \d+ crates of the program\*\*.*?(?=\*\*Laws alone)", text)
-    count.same(where, set(re.findall(r"\b(?:st_\w+|ilpstream)\b", found.group(0) if found else "")), set(program), "crates.txt (crates of the program)")
+    count.same(where, set(re.findall(rf"{CRATE}|\bilpstream\b", found.group(0) if found else "")), set(program), "crates.txt (crates of the program)")
 
 
 # ---- the limits
@@ -378,8 +380,8 @@ def check_limits(count):
 STATUSES = {"yes", "otherwise", "no", "host"}
 # What the last column has in code besides names.
 NO_NAMES = {"send", "receive", "ilpstream", "ilpstream ledger", "/dev/urandom", "/ilp", "Connection: close", "peer."}
-DEFINITION = re.compile(r"(st_\w+): ([A-Z]\w*)\.(\w+)")
-FUNCTION = re.compile(r"(st_\w+): (?:([A-Z]\w*)::)?([a-z]\w*)(?:\.([a-z]\w*))?")
+DEFINITION = re.compile(rf"({CRATE}): ([A-Z]\w*)\.(\w+)")
+FUNCTION = re.compile(rf"({CRATE}): (?:([A-Z]\w*)::)?([a-z]\w*)(?:\.([a-z]\w*))?")
 PLACE = re.compile(r"((?:tests|bind|crates|examples)/[\w./-]+)(?:: ([a-z]\w*))?")
 
 

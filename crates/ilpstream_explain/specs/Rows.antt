@@ -218,14 +218,6 @@ rows =
     } ∷
     record {
       number = 35;
-      home = codes "st_hop";
-      variant = codes "HopError::NoMemory";
-      places = [];
-      cause = codes "Out of memory. The hop is as before the call." ∷ [];
-      advice = codes "What to do: Answer the Prepare with the Reject that `t00` lends; the sender retries." ∷ [];
-    } ∷
-    record {
-      number = 35;
       home = codes "ilpstream_main";
       variant = codes "RunError::NoHop";
       places = codes "connector" ∷ [];
@@ -233,6 +225,14 @@ rows =
           codes "to." ∷
           [];
       advice = codes "What to do: Give the process more memory." ∷ [];
+    } ∷
+    record {
+      number = 35;
+      home = codes "st_hop";
+      variant = codes "HopError::NoMemory";
+      places = [];
+      cause = codes "Out of memory. The hop is as before the call." ∷ [];
+      advice = codes "What to do: Answer the Prepare with the Reject that `t00` lends; the sender retries." ∷ [];
     } ∷
     record {
       number = 36;
@@ -378,14 +378,6 @@ rows =
     } ∷
     record {
       number = 58;
-      home = codes "st_end";
-      variant = codes "EndError::ConnectionFailed";
-      places = [];
-      cause = codes "The connection failed: 200 Prepares in a row without a Fulfill, or a final Reject code." ∷ [];
-      advice = codes "What to do: Open a new connection with a new secret." ∷ [];
-    } ∷
-    record {
-      number = 58;
       home = codes "ilpstream_local";
       variant = codes "LocalFault::Failed";
       places = codes "local" ∷ [];
@@ -407,6 +399,14 @@ rows =
       advice = codes "What to do: Look at `--to` and the tokens, then at the table's routes, then at LIMIT, rates and" ∷
           codes "clocks. Then begin again with a new secret." ∷
           [];
+    } ∷
+    record {
+      number = 58;
+      home = codes "st_end";
+      variant = codes "EndError::ConnectionFailed";
+      places = [];
+      cause = codes "The connection failed: 200 Prepares in a row without a Fulfill, or a final Reject code." ∷ [];
+      advice = codes "What to do: Open a new connection with a new secret." ∷ [];
     } ∷
     record {
       number = 59;
@@ -512,19 +512,19 @@ rows =
     } ∷
     record {
       number = 69;
-      home = codes "st_queues";
-      variant = codes "QueueError::NoMemory";
-      places = [];
-      cause = codes "Out of memory for the rings." ∷ [];
-      advice = codes "What to do: Free memory and repeat the call." ∷ [];
-    } ∷
-    record {
-      number = 69;
       home = codes "ilpstream_serving";
       variant = codes "TransferError::Rings";
       places = codes "send" ∷ [];
       cause = codes "In `send`: out of memory for the rings of its streams. Nothing was sent." ∷ [];
       advice = codes "What to do: Give the process more memory: a transfer needs some megabytes." ∷ [];
+    } ∷
+    record {
+      number = 69;
+      home = codes "st_queues";
+      variant = codes "QueueError::NoMemory";
+      places = [];
+      cause = codes "Out of memory for the rings." ∷ [];
+      advice = codes "What to do: Free memory and repeat the call." ∷ [];
     } ∷
     record {
       number = 70;
@@ -608,14 +608,6 @@ rows =
     } ∷
     record {
       number = 77;
-      home = codes "st_world_quiet";
-      variant = codes "Fault::NoMemory";
-      places = [];
-      cause = codes "Out of memory for the record of a lossless run." ∷ [];
-      advice = codes "What to do: Free memory and play it again. The returned trace has the events before." ∷ [];
-    } ∷
-    record {
-      number = 77;
       home = codes "st_world";
       variant = codes "Fault::NoMemory";
       places = [];
@@ -623,12 +615,12 @@ rows =
       advice = codes "What to do: Free memory and repeat the event." ∷ [];
     } ∷
     record {
-      number = 78;
+      number = 77;
       home = codes "st_world_quiet";
-      variant = codes "Fault::BadInput";
+      variant = codes "Fault::NoMemory";
       places = [];
-      cause = codes "There is no stream, more than 32, or not one amount for each." ∷ [];
-      advice = codes "What to do: Pass 1 to 32 streams, each with an amount." ∷ [];
+      cause = codes "Out of memory for the record of a lossless run." ∷ [];
+      advice = codes "What to do: Free memory and play it again. The returned trace has the events before." ∷ [];
     } ∷
     record {
       number = 78;
@@ -639,20 +631,20 @@ rows =
       advice = codes "What to do: Pass at most eight hops with lawful limits." ∷ [];
     } ∷
     record {
+      number = 78;
+      home = codes "st_world_quiet";
+      variant = codes "Fault::BadInput";
+      places = [];
+      cause = codes "There is no stream, more than 32, or not one amount for each." ∷ [];
+      advice = codes "What to do: Pass 1 to 32 streams, each with an amount." ∷ [];
+    } ∷
+    record {
       number = 79;
       home = codes "st_hub";
       variant = codes "HubError::WriterTooLate";
       places = [];
       cause = codes "The stream was closed or aborted." ∷ [];
       advice = codes "What to do: Add writers before the stream's last writer ends." ∷ [];
-    } ∷
-    record {
-      number = 80;
-      home = codes "st_http";
-      variant = codes "HttpError::ReadFault";
-      places = [];
-      cause = codes "The stream returned an error to a read." ∷ [];
-      advice = codes "What to do: The connection broke. Repeat the exchange on a new one." ∷ [];
     } ∷
     record {
       number = 80;
@@ -677,6 +669,14 @@ rows =
           codes "if none of its threads has a connection; otherwise it continues to try." ∷
           [];
       advice = codes "What to do: The process may have too many open files: see `ulimit -n`." ∷ [];
+    } ∷
+    record {
+      number = 80;
+      home = codes "st_http";
+      variant = codes "HttpError::ReadFault";
+      places = [];
+      cause = codes "The stream returned an error to a read." ∷ [];
+      advice = codes "What to do: The connection broke. Repeat the exchange on a new one." ∷ [];
     } ∷
     record {
       number = 81;
@@ -704,19 +704,19 @@ rows =
     } ∷
     record {
       number = 84;
-      home = codes "st_http";
-      variant = codes "HttpError::TooLong";
-      places = [];
-      cause = codes "The body of a response has more than 65,535 bytes." ∷ [];
-      advice = codes "What to do: The neighbour sends more than an ILP packet." ∷ [];
-    } ∷
-    record {
-      number = 84;
       home = codes "ilpstream_local";
       variant = codes "LocalFault::TooLong";
       places = codes "local" ∷ [];
       cause = codes "In `local`: the input has more than 1,048,576 bytes." ∷ [];
       advice = codes "What to do: Give it less." ∷ [];
+    } ∷
+    record {
+      number = 84;
+      home = codes "st_http";
+      variant = codes "HttpError::TooLong";
+      places = [];
+      cause = codes "The body of a response has more than 65,535 bytes." ∷ [];
+      advice = codes "What to do: The neighbour sends more than an ILP packet." ∷ [];
     } ∷
     record {
       number = 85;
@@ -725,14 +725,6 @@ rows =
       places = [];
       cause = codes "The input ended before the message was complete." ∷ [];
       advice = codes "What to do: The connection broke. Repeat the exchange on a new one." ∷ [];
-    } ∷
-    record {
-      number = 86;
-      home = codes "st_http";
-      variant = codes "HttpError::Turns";
-      places = [];
-      cause = codes "The given number of I/O calls was used up before the message was complete." ∷ [];
-      advice = codes "What to do: Allow more calls; a peer may be sending byte by byte." ∷ [];
     } ∷
     record {
       number = 86;
@@ -745,6 +737,14 @@ rows =
           codes "times for something to send." ∷
           [];
       advice = codes "What to do: Begin again, with a new secret." ∷ [];
+    } ∷
+    record {
+      number = 86;
+      home = codes "st_http";
+      variant = codes "HttpError::Turns";
+      places = [];
+      cause = codes "The given number of I/O calls was used up before the message was complete." ∷ [];
+      advice = codes "What to do: Allow more calls; a peer may be sending byte by byte." ∷ [];
     } ∷
     record {
       number = 87;
@@ -792,14 +792,6 @@ rows =
     } ∷
     record {
       number = 90;
-      home = codes "st_file";
-      variant = codes "FileError::ReadFault";
-      places = codes "send" ∷ [];
-      cause = codes "In `send`: standard input cannot be read." ∷ [];
-      advice = codes "What to do: Look at the file after `<`." ∷ [];
-    } ∷
-    record {
-      number = 90;
       home = codes "ilpstream_local";
       variant = codes "LocalFault::Input";
       places = codes "local" ∷ [];
@@ -823,6 +815,14 @@ rows =
       advice = codes "What to do: Use a file that does not end, such as `/dev/urandom`." ∷ [];
     } ∷
     record {
+      number = 90;
+      home = codes "st_file";
+      variant = codes "FileError::ReadFault";
+      places = codes "send" ∷ [];
+      cause = codes "In `send`: standard input cannot be read." ∷ [];
+      advice = codes "What to do: Look at the file after `<`." ∷ [];
+    } ∷
+    record {
       number = 91;
       home = codes "ilpstream_frames";
       variant = codes "Fault::Output";
@@ -843,19 +843,19 @@ rows =
     } ∷
     record {
       number = 91;
-      home = codes "st_file";
-      variant = codes "FileError::WriteFault";
-      places = codes "receive" ∷ [];
-      cause = codes "In `receive`: the output cannot be written, for example on a full disk or to a closed pipe." ∷ [];
-      advice = codes "What to do: Make room. What is written is a beginning of the file. Begin again." ∷ [];
-    } ∷
-    record {
-      number = 91;
       home = codes "ilpstream_local";
       variant = codes "LocalFault::Output";
       places = codes "local" ∷ [];
       cause = codes "In `local`: the output cannot be written." ∷ [];
       advice = codes "What to do: Make room." ∷ [];
+    } ∷
+    record {
+      number = 91;
+      home = codes "st_file";
+      variant = codes "FileError::WriteFault";
+      places = codes "receive" ∷ [];
+      cause = codes "In `receive`: the output cannot be written, for example on a full disk or to a closed pipe." ∷ [];
+      advice = codes "What to do: Make room. What is written is a beginning of the file. Begin again." ∷ [];
     } ∷
     record {
       number = 92;
@@ -880,6 +880,14 @@ rows =
     } ∷
     record {
       number = 93;
+      home = codes "ilpstream_local";
+      variant = codes "LocalFault::Turns";
+      places = codes "local" ∷ [];
+      cause = codes "In `local`: 2,147,483,647 reads, writes and flushes were used up." ∷ [];
+      advice = codes "What to do: Use an input that gives more bytes in a call." ∷ [];
+    } ∷
+    record {
+      number = 93;
       home = codes "st_file";
       variant = codes "FileError::Turns";
       places = codes "send" ∷
@@ -887,14 +895,6 @@ rows =
           [];
       cause = codes "In `send` and `receive`: 2,147,483,647 calls of the input or the output were used up." ∷ [];
       advice = codes "What to do: Begin again, in smaller parts." ∷ [];
-    } ∷
-    record {
-      number = 93;
-      home = codes "ilpstream_local";
-      variant = codes "LocalFault::Turns";
-      places = codes "local" ∷ [];
-      cause = codes "In `local`: 2,147,483,647 reads, writes and flushes were used up." ∷ [];
-      advice = codes "What to do: Use an input that gives more bytes in a call." ∷ [];
     } ∷
     record {
       number = 94;
@@ -1011,14 +1011,6 @@ rows =
     } ∷
     record {
       number = 99;
-      home = codes "ilpstream_settings";
-      variant = codes "TableError::NoMemory";
-      places = [];
-      cause = codes "In `connector`: out of memory for the table." ∷ [];
-      advice = codes "What to do: Give the process more memory." ∷ [];
-    } ∷
-    record {
-      number = 99;
       home = codes "ilpstream_serving";
       variant = codes "TransferError::NoMemory";
       places = codes "send" ∷
@@ -1030,6 +1022,14 @@ rows =
       advice = codes "What to do: Give the process more memory (a transfer needs some megabytes), or let it have more" ∷
           codes "threads: see `ulimit -u`." ∷
           [];
+    } ∷
+    record {
+      number = 99;
+      home = codes "ilpstream_settings";
+      variant = codes "TableError::NoMemory";
+      places = [];
+      cause = codes "In `connector`: out of memory for the table." ∷ [];
+      advice = codes "What to do: Give the process more memory." ∷ [];
     } ∷
     record {
       number = 110;

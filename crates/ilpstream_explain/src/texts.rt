@@ -392,21 +392,21 @@ const FAULT_76: &str = "Numbers of the library:
 ";
 
 const FAULT_77: &str = "Numbers of the library:
-77  st_world_quiet Fault::NoMemory
-    Out of memory for the record of a lossless run.
-    What to do: Free memory and play it again. The returned trace has the events before.
 77  st_world Fault::NoMemory
     Out of memory for the record of a world. The world is as before the event.
     What to do: Free memory and repeat the event.
+77  st_world_quiet Fault::NoMemory
+    Out of memory for the record of a lossless run.
+    What to do: Free memory and play it again. The returned trace has the events before.
 ";
 
 const FAULT_78: &str = "Numbers of the library:
-78  st_world_quiet Fault::BadInput
-    There is no stream, more than 32, or not one amount for each.
-    What to do: Pass 1 to 32 streams, each with an amount.
 78  st_world Fault::BadChain
     There are more than eight hops, or a hop has a limit above 2^63 - 1.
     What to do: Pass at most eight hops with lawful limits.
+78  st_world_quiet Fault::BadInput
+    There is no stream, more than 32, or not one amount for each.
+    What to do: Pass 1 to 32 streams, each with an amount.
 ";
 
 const FAULT_79: &str = "Numbers of the library:
@@ -495,9 +495,6 @@ const FAULT_90: &str = "90  ilpstream_frames Fault::Input, in frames, local, sen
     In `frames` and `connector`: standard input cannot be read. In `send`, `connector` and `local
     --totals`: it is closed; nothing was opened or sent.
     What to do: Look at the file after `<`.
-90  st_file FileError::ReadFault, in send
-    In `send`: standard input cannot be read.
-    What to do: Look at the file after `<`.
 90  ilpstream_local LocalFault::Input, in local
     In `local`: standard input cannot be read.
     What to do: Look at the file after `<`.
@@ -507,6 +504,9 @@ const FAULT_90: &str = "90  ilpstream_frames Fault::Input, in frames, local, sen
 90  ilpstream_serving TransferError::IvFault, in send
     In `send`: the file of random bytes cannot be read, or has no twelve bytes left.
     What to do: Use a file that does not end, such as `/dev/urandom`.
+90  st_file FileError::ReadFault, in send
+    In `send`: standard input cannot be read.
+    What to do: Look at the file after `<`.
 ";
 
 const FAULT_91: &str =
@@ -516,12 +516,12 @@ const FAULT_91: &str =
     `connector` and `local`: the totals cannot be written to the file of `--totals`, or lines wait
     at the end that could not be written to that of `--log`, and there was no other fault.
     What to do: Make room. Totals and lines that were not written are lost; all else was done.
-91  st_file FileError::WriteFault, in receive
-    In `receive`: the output cannot be written, for example on a full disk or to a closed pipe.
-    What to do: Make room. What is written is a beginning of the file. Begin again.
 91  ilpstream_local LocalFault::Output, in local
     In `local`: the output cannot be written.
     What to do: Make room.
+91  st_file FileError::WriteFault, in receive
+    In `receive`: the output cannot be written, for example on a full disk or to a closed pipe.
+    What to do: Make room. What is written is a beginning of the file. Begin again.
 ";
 
 const FAULT_92: &str = "92  st_file FileError::Aborted, in receive
@@ -533,12 +533,12 @@ const FAULT_93: &str =
     "93  ilpstream_frames Fault::Turns, in frames, local, connector, ledger, explain
     2,147,483,647 reads, writes and flushes were used up.
     What to do: Give the input in smaller parts.
-93  st_file FileError::Turns, in send, receive
-    In `send` and `receive`: 2,147,483,647 calls of the input or the output were used up.
-    What to do: Begin again, in smaller parts.
 93  ilpstream_local LocalFault::Turns, in local
     In `local`: 2,147,483,647 reads, writes and flushes were used up.
     What to do: Use an input that gives more bytes in a call.
+93  st_file FileError::Turns, in send, receive
+    In `send` and `receive`: 2,147,483,647 calls of the input or the output were used up.
+    What to do: Begin again, in smaller parts.
 ";
 
 const FAULT_94: &str = "94  st_file FileError::NoMemory, in send

@@ -36,4 +36,8 @@ pub use laws::replies_are_sealed;
 pub use opened::Opened;
 pub use received::Received;
 pub use role::Role;
+pub use st_ilp::Moment;
+pub use st_keys::Keys;
+pub use st_receiver::Got;
+pub use st_sender::EndConfig;
 pub use totals::Totals;

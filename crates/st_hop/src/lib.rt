@@ -31,5 +31,7 @@ pub use laws::{
 pub use refusal::Refusal;
 pub use route::{NextHop, Route};
 pub use settling::Closing;
+pub use st_ilp::Moment;
+pub use st_links::Outcome;
 pub use ticket::{Open, Ticket};
 pub use verdict::Verdict;

@@ -31,5 +31,7 @@ pub use laws::{
     what_is_pending_bounds_the_cost,
 };
 pub use opening::MAX_HOPS;
+pub use st_sender::EndConfig;
+pub use st_world_parts::Told;
 pub use trace::Trace;
 pub use world::World;
