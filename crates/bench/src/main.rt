@@ -5,6 +5,10 @@
 //! STREAMS streams; seals and opens SEALED packets alone; and hashes HASHED packets. It prints how many bytes were read, how many
 //! packets were opened, and the last condition.
 //!
+//! `cost STREAMS FLIGHTS TIMES BUSY` (`bench/end.sh`) asks a sender TIMES times for its next packet, with STREAMS streams open, FLIGHTS
+//! Prepares of 80 bytes in flight, and 80 bytes due on the first BUSY streams. Each packet is taken back. It prints how many
+//! packets there were.
+//!
 //! `hop ACCOUNTS OPEN FULFILLED UNREACHABLE LONG` (`bench/hop.sh`) passes Prepares through a hop in memory:
 //!
 //! 1. the accounts of the hop, each with a route
@@ -22,6 +26,7 @@
 #![tactic(auto)]
 
 mod alone;
+mod asking;
 mod halves;
 mod hubs;
 mod packets;
@@ -30,6 +35,7 @@ mod passing;
 mod ring;
 
 use alone::{hash_again, seal_again};
+use asking::{Filling, ask_again};
 use hubs::pass_bytes;
 use passing::{Sizes, pass_all};
 use ring::pass_chunks;
@@ -42,8 +48,11 @@ use std::{env, io};
 /// The bytes of one Prepare between two ends.
 const PIECE: usize = 16_000;
 
+/// The bytes of one Prepare of the part `cost`.
+const SMALL: usize = 80;
+
 /// The most parts of one run.
-const PARTS: usize = 3;
+const PARTS: usize = 4;
 
 /// The number that an argument spells, or 0.
 fn number(argument: Option<String>) -> u64 {
@@ -68,6 +77,21 @@ fn end(rt: &HostRuntime, pieces: u64, streams: u64, sealed: u64, hashed: u64) ->
         print!(rt; "{byte:02x}")?;
     }
     println!(rt)
+}
+
+/// The part `cost`.
+fn cost(rt: &HostRuntime, streams: u64, flights: u64, times: u64, busy: u64) -> io::Result<()> {
+    let bytes = vec![in rt.alloc(); 7u8; SMALL]?;
+    let filling = Filling {
+        streams: streams.min(64) as u8,
+        flights,
+        times,
+        busy: busy.min(64) as u8,
+    };
+    match ask_again(rt.alloc(), &bytes, filling) {
+        Some(packets) => println!(rt; "{packets}"),
+        None => println!(rt; "not filled"),
+    }
 }
 
 /// The part `hop`.
@@ -112,6 +136,7 @@ fn main(rt: HostRuntime) -> io::Result<()> {
         let third = number(arguments.next());
         let fourth = number(arguments.next());
         match part.as_str() {
+            "cost" => cost(&rt, first, second, third, fourth)?,
             "end" => end(&rt, first, second, third, fourth)?,
             "hub" => {
                 let (chunks, bytes) = hub(&rt, rt.alloc(), first, second, third, fourth);

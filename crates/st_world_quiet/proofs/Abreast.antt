@@ -30,7 +30,7 @@ use Rattle.st_world_quiet.proofs.Sums.{sum_same}
 use Rattle.st_world_quiet.proofs.Acknowledging.{all_acked_at, all_acked_end, all_kept, all_own_acked, is_other, none_stays}
 use Rattle.st_world_quiet.proofs.Money.{all_acked_paid, money_after}
 use Rattle.st_world_quiet.proofs.Telling.{all_own_told, all_told_at, all_told_only, none_stays_told, own_told, rest_all_acked, rest_all_told}
-use Rattle.st_world_quiet.proofs.Rounds.{alike, none_flies, same_money}
+use Rattle.st_world_quiet.proofs.EndRounds.{alike, none_flies, same_money}
 use Rattle.st_world_quiet.proofs.Counting.{none_ends}
 use Rattle.st_world_quiet.proofs.Taken.{end_within, load_taken, reach_within, reaches}
 use Rattle.st_world_quiet.proofs.Stopping.{load_stops}

@@ -21,7 +21,7 @@ use Rattle.st_world_quiet.specs.Calls.{MaySend, allow_each, other}
 use Rattle.st_world_quiet.specs.Trips.{CanTell}
 use Rattle.st_world_quiet.proofs.Sums.{sum_below}
 use Rattle.st_world_quiet.proofs.Lowering.{no_slot, place_below}
-use Rattle.st_world_quiet.proofs.Opening.{opening_abreast}
+use Rattle.st_world_quiet.proofs.EndOpening.{opening_abreast}
 use Rattle.st_world_quiet.proofs.Beginning.{IsBegun, begun_opening}
 
 -- ---- the values that are kept

@@ -11,7 +11,7 @@ use Rattle.st_world_quiet.proofs.Sums.{sum_below, sum_same}
 use Rattle.st_world_quiet.proofs.Money.{zeros}
 use Rattle.st_world_quiet.proofs.Lowering.{no_bytes, no_close, no_money, zero_prepares}
 use Rattle.st_world_quiet.proofs.Keeping.{IsLeft}
-use Rattle.st_world_quiet.proofs.Rounds.{refilled_waits, rounds_lower}
+use Rattle.st_world_quiet.proofs.EndRounds.{refilled_waits, rounds_lower}
 
 -- ---- the opening is quiet
 

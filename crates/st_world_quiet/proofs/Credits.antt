@@ -13,7 +13,7 @@ use Rattle.st_world_quiet.specs.Mirrored.{IsPacketOf}
 use Rattle.st_world_quiet.specs.Exchanges.{Exchange, IsModest}
 use Rattle.st_world_quiet.specs.Calls.{lengths}
 use Rattle.st_world_quiet.specs.Trips.{Turns}
-use Rattle.st_world_quiet.proofs.Rounds.{round_spends}
+use Rattle.st_world_quiet.proofs.EndRounds.{round_spends}
 use Rattle.st_world_quiet.proofs.Staying.{effect_credit}
 use Rattle.st_world_quiet.specs.Chains.{Stands}
 use Rattle.st_world_quiet.proofs.HopRuns.{turn_exchange, turn_stands}

@@ -26,7 +26,7 @@ use Rattle.st_world_quiet.specs.Mirrored.{IsAhead, Tally}
 use Rattle.st_world_quiet.specs.Exchanges.{Exchange}
 use Rattle.st_world_quiet.proofs.Acknowledging.{all_acked_at, all_own_acked, none_stays}
 use Rattle.st_world_quiet.proofs.Closes.{all_acked_closes}
-use Rattle.st_world_quiet.proofs.Rounds.{alike}
+use Rattle.st_world_quiet.proofs.EndRounds.{alike}
 use Rattle.st_world_quiet.proofs.Receiving.{replaced_here}
 use Rattle.st_world_quiet.proofs.Leaving.{closes_slots, effect_slots, money_held, no_connection_closes, one_close_keeps, one_close_slots}
 use Rattle.st_world_quiet.proofs.Holding.{frame_at}

@@ -16,7 +16,7 @@ use Rattle.st_world_quiet.proofs.Sums.{sum_below}
 use Rattle.st_world_quiet.proofs.Acknowledging.{all_acked_at, all_acked_end, all_kept, all_own_acked, none_stays}
 use Rattle.st_world_quiet.proofs.Money.{all_acked_paid}
 use Rattle.st_world_quiet.proofs.Telling.{rest_all_acked}
-use Rattle.st_world_quiet.proofs.Rounds.{none_flies}
+use Rattle.st_world_quiet.proofs.EndRounds.{none_flies}
 use Rattle.st_world_quiet.proofs.Counting.{data_within, end_moves, ends_move}
 
 -- what was in flight is acknowledged

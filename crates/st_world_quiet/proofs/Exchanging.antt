@@ -15,7 +15,7 @@ use Rattle.st_world_quiet.specs.Mirrored.{IsAbreast, IsAhead, Tally}
 use Rattle.st_world_quiet.specs.Exchanges.{Exchange, Exchanges, IsModest}
 use Rattle.st_world_quiet.proofs.Sums.{sum_below}
 use Rattle.st_world_quiet.proofs.Lowering.{place_below}
-use Rattle.st_world_quiet.proofs.Rounds.{round_keeps}
+use Rattle.st_world_quiet.proofs.EndRounds.{round_keeps}
 use Rattle.st_world_quiet.proofs.Bound.{all_done}
 use Rattle.st_world_quiet.proofs.Enough.{tells_enough}
 use Rattle.st_world_quiet.proofs.Replies.{acked_is_sent, reply_tells}

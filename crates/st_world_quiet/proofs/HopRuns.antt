@@ -22,7 +22,7 @@ use Rattle.st_world_quiet.specs.Exchanges.{Exchange, IsModest}
 use Rattle.st_world_quiet.specs.Calls.{MaySend, allow_each, begin_each, lengths, other, take_each, write_each}
 use Rattle.st_world_quiet.specs.Trips.{Passage, Turn, Turns}
 use Rattle.st_world_quiet.proofs.Money.{money_after}
-use Rattle.st_world_quiet.proofs.Rounds.{round_keeps, rounds_lower}
+use Rattle.st_world_quiet.proofs.EndRounds.{round_keeps, rounds_lower}
 use Rattle.st_world_quiet.proofs.Bound.{opening_quiet}
 use Rattle.st_world_quiet.proofs.Exchanging.{exchange_round, exchanges_rounds}
 use Rattle.st_world_quiet.proofs.Abreast.{round_abreast}

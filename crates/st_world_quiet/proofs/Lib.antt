@@ -27,12 +27,12 @@ pub mod LostWitness
 pub mod Lowering
 pub mod Missing
 pub mod Money
-pub mod Opening
+pub mod EndOpening
 pub mod Reading
 pub mod ReadingOut
 pub mod Receiving
 pub mod Replies
-pub mod Rounds
+pub mod EndRounds
 pub mod Running
 pub mod SameEnds
 pub mod Short

@@ -13,7 +13,7 @@ use Rattle.st_world_quiet.specs.Losses.{AnswerLost, AreFew, Attempt, Attempts, D
 use Rattle.st_world_quiet.proofs.Sums.{sum_same}
 use Rattle.st_world_quiet.proofs.Lowering.{work_lowers}
 use Rattle.st_world_quiet.proofs.Keeping.{IsLeft}
-use Rattle.st_world_quiet.proofs.Rounds.{Alike, alike, none_flies, offer_of, refilled_waits, round_keeps, same_ends, same_money, work_same}
+use Rattle.st_world_quiet.proofs.EndRounds.{Alike, alike, none_flies, offer_of, refilled_waits, round_keeps, same_ends, same_money, work_same}
 use Rattle.st_world_quiet.proofs.Bound.{opening_quiet, within_bound}
 
 -- ---- a stream that was written on

@@ -23,7 +23,7 @@ use Rattle.st_world_quiet.specs.Losses as losses
 use Rattle.st_world_quiet.specs.Losses.{AreFew, MayLose, lost_answers}
 use Rattle.st_world_quiet.specs.Calls.{allow_each, lengths}
 use Rattle.st_world_quiet.specs.LostTrips.{FatedTrips}
-use Rattle.st_world_quiet.proofs.Rounds.{offer_of}
+use Rattle.st_world_quiet.proofs.EndRounds.{offer_of}
 use Rattle.st_world_quiet.proofs.Bound.{all_done}
 use Rattle.st_world_quiet.proofs.Lowering.{zero_prepares}
 use Rattle.st_world_quiet.proofs.LostRuns.{run_bounded_by, run_delivered_by, run_ended_by, run_sharper_by}

@@ -13,7 +13,7 @@ use Rattle.st_world_quiet.specs.Losses.{AnswerLost, AreFew, Attempt, Delivered, 
 use Rattle.st_world_quiet.specs.Calls.{AreHeldBack, lengths}
 use Rattle.st_world_quiet.specs.Trips.{AreJoined, CanTell}
 use Rattle.st_world_quiet.specs.LostTrips.{FatedTrip}
-use Rattle.st_world_quiet.proofs.Rounds.{offer_of}
+use Rattle.st_world_quiet.proofs.EndRounds.{offer_of}
 use Rattle.st_world_quiet.proofs.Losing.{attempt_fails, attempts_lower, miss_last, miss_money}
 use Rattle.st_world_quiet.proofs.Trying.{HasSpare, one_try}
 use Rattle.st_world_quiet.proofs.LostTrips.{lost_miss, trip_spends, trip_try, unanswered_miss}

@@ -20,7 +20,7 @@ use Rattle.st_world_quiet.proofs.Bound.{opening_quiet}
 use Rattle.st_world_quiet.proofs.Beginning.{IsBegun, begun_opening, calls_begun}
 use Rattle.st_world_quiet.proofs.Allowing.{Allows, allowed_tells, calls_allow, may_peer, money_within}
 use Rattle.st_world_quiet.proofs.SameEnds.{allow_same, begin_same}
-use Rattle.st_world_quiet.proofs.Rounds.{offer_of}
+use Rattle.st_world_quiet.proofs.EndRounds.{offer_of}
 use Rattle.st_world_quiet.proofs.Trying.{lossy_alive, lossy_bounded, lossy_carried, lossy_delivered, lossy_ended, lossy_offer, lossy_sharper, opening_room, opening_spare, opening_tally}
 use Rattle.st_world_quiet.proofs.LostTrips.{trips_tries}
 use Rattle.st_world_quiet.proofs.LostTurns.{fated_turns}

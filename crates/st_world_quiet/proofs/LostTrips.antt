@@ -20,7 +20,7 @@ use Rattle.st_world_quiet.specs.Losses.{AnswerLost, Delivered, Fate, Miss, Prepa
 use Rattle.st_world_quiet.specs.Trips.{AreJoined, CanTell, Passage, Trip, once_received}
 use Rattle.st_world_quiet.specs.LostTrips.{FatedTrip, FatedTrips, LostTrip, UnansweredTrip}
 use Rattle.st_world_quiet.proofs.Abreast.{effect_max}
-use Rattle.st_world_quiet.proofs.Rounds.{Spends, round_spends}
+use Rattle.st_world_quiet.proofs.EndRounds.{Spends, round_spends}
 use Rattle.st_world_quiet.proofs.Trips.{both_came, flight_opens, goes_sends, is_packet_of, joined_still, packet_of_load, tells_still, trip_exchange}
 use Rattle.st_world_quiet.proofs.Trying.{HasSpare, one_try}
 

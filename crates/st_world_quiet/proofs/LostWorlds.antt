@@ -29,7 +29,7 @@ use Rattle.st_world_quiet.specs.Losses.{MayLose, lost_answers}
 use Rattle.st_world_quiet.specs.Calls.{MaySend, allow_each, lengths, take_each, write_each}
 use Rattle.st_world_quiet.specs.Trips.{AreJoined, CanTell, Passage}
 use Rattle.st_world_quiet.specs.LostTrips.{Departure}
-use Rattle.st_world_quiet.proofs.Rounds.{offer_of}
+use Rattle.st_world_quiet.proofs.EndRounds.{offer_of}
 use Rattle.st_world_quiet.proofs.Lowering.{none_goes}
 use Rattle.st_world_quiet.proofs.Credited.{amount_left}
 use Rattle.st_world_quiet.proofs.Trips.{both_came, goes_sends}

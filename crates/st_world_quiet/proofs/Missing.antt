@@ -17,7 +17,7 @@ use Rattle.st_world_quiet.specs.Mirrored.{IsAhead, IsReadOut, Tally}
 use Rattle.st_world_quiet.specs.Losses.{once_lost, with_lost}
 use Rattle.st_world_quiet.proofs.Sums.{sum_same}
 use Rattle.st_world_quiet.proofs.Reading.{run_is_all}
-use Rattle.st_world_quiet.proofs.Rounds.{alike, none_flies, same_money}
+use Rattle.st_world_quiet.proofs.EndRounds.{alike, none_flies, same_money}
 use Rattle.st_world_quiet.proofs.Losing.{Kept, kept_at}
 use Rattle.st_world_quiet.proofs.Abreast.{Comes, alive_at, below_at, credit_at, credit_sum, emptied_at, going_at, input_at, later_at, most_at, names_at, read_at, slots_kept, stops_at, unclosed_at, within_at}
 

@@ -11,7 +11,7 @@ use Rattle.st_world_quiet.specs.Mirrored.{IsAbreast}
 use Rattle.st_world_quiet.specs.Exchanges.{Exchanges, IsModest}
 use Rattle.st_world_quiet.specs.Calls.{MaySend, allow_each, begin_each, lengths, other}
 use Rattle.st_world_quiet.specs.Trips.{AreJoined, Turns}
-use Rattle.st_world_quiet.proofs.Rounds.{rounds_lower}
+use Rattle.st_world_quiet.proofs.EndRounds.{rounds_lower}
 use Rattle.st_world_quiet.proofs.Bound.{opening_quiet, sends_bounded}
 use Rattle.st_world_quiet.proofs.Exchanging.{all_delivered, exchanges_rounds}
 use Rattle.st_world_quiet.proofs.Beginning.{begun_opening, calls_begun}

@@ -43,7 +43,7 @@ use Rattle.st_world_quiet.specs.Rounds.{IsWritten, once_fulfilled}
 use Rattle.st_world_quiet.specs.Mirrored.{IsAhead, IsPacketOf, IsReadOut, Tally}
 use Rattle.st_world_quiet.specs.Exchanges.{Exchange, Exchanges, IsModest}
 use Rattle.st_world_quiet.specs.Trips.{AreJoined, CanTell, Passage, Trip, Trips, once_answered, once_received}
-use Rattle.st_world_quiet.proofs.Rounds.{round_keeps}
+use Rattle.st_world_quiet.proofs.EndRounds.{round_keeps}
 use Rattle.st_world_quiet.proofs.Exchanging.{exchange_round}
 use Rattle.st_world_quiet.proofs.Fulfilling.{load_fulfilled}
 use Rattle.st_world_quiet.proofs.Tellable.{Writes, reply_writes, writes_room}

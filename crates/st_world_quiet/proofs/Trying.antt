@@ -19,13 +19,13 @@ use Rattle.st_world_quiet.specs.Mirrored.{IsAhead, Tally}
 use Rattle.st_world_quiet.specs.Exchanges.{Exchange, IsModest, opened_receiving}
 use Rattle.st_world_quiet.specs.Losses.{AllowsLosses, AnswerLost, AreFew, Attempt, Attempts, Delivered, Fate, Lost, PrepareLost, Tries, Try, Unanswered, lost_answers, lost_by, lost_on, losses, once_lost, tally_after, with_lost}
 use Rattle.st_world_quiet.proofs.Money.{due_is_left, none_in}
-use Rattle.st_world_quiet.proofs.Rounds.{offer_of, round_keeps, round_spends}
+use Rattle.st_world_quiet.proofs.EndRounds.{offer_of, round_keeps, round_spends}
 use Rattle.st_world_quiet.proofs.Bound.{all_done, opening_quiet}
 use Rattle.st_world_quiet.proofs.Ended.{AreEnded, exchange_ended, load_ended}
 use Rattle.st_world_quiet.proofs.Credited.{shares_amount}
 use Rattle.st_world_quiet.proofs.Abreast.{packet_comes, round_abreast}
 use Rattle.st_world_quiet.proofs.Exchanging.{all_had, exchange_round}
-use Rattle.st_world_quiet.proofs.Opening.{opening_ahead}
+use Rattle.st_world_quiet.proofs.EndOpening.{opening_ahead}
 use Rattle.st_world_quiet.proofs.Losing.{attempts_alive, attempts_bounded, kept_at, attempts_lower, miss_keeps, miss_limit, miss_offers}
 use Rattle.st_world_quiet.proofs.Stopping.{gives_end}
 use Rattle.st_world_quiet.proofs.Missing.{nothing_held, never_answered, never_came, written_ahead}

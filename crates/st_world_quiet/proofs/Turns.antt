@@ -23,7 +23,7 @@ use Rattle.st_world_quiet.specs.Trips.{AreJoined, CanTell, Passage, Trip, Trips,
 use Rattle.st_world_quiet.proofs.Acknowledging.{all_acked_at, all_acked_end, all_kept, all_own_acked, none_stays}
 use Rattle.st_world_quiet.proofs.Telling.{IsToldOnly, all_own_told, all_told_at, all_told_only, none_stays_told, rest_all_acked, rest_all_told}
 use Rattle.st_world_quiet.proofs.Keeping.{IsLeft, left_kept}
-use Rattle.st_world_quiet.proofs.Rounds.{Spends, round_keeps, round_spends}
+use Rattle.st_world_quiet.proofs.EndRounds.{Spends, round_keeps, round_spends}
 use Rattle.st_world_quiet.proofs.Exchanging.{exchange_round}
 use Rattle.st_world_quiet.proofs.Abreast.{effect_slots_long, effect_stays_alive, round_abreast}
 use Rattle.st_world_quiet.proofs.ReadingOut.{each_read}

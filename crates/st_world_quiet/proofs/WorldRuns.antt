@@ -31,7 +31,7 @@ use Rattle.st_world.proofs.DataSent.{OutFine}
 use Rattle.st_world_quiet.proofs.Bound.{all_done, within_bound}
 use Rattle.st_world_quiet.proofs.Beginning.{IsBegun, calls_begun}
 use Rattle.st_world_quiet.proofs.SameEnds.{begin_same}
-use Rattle.st_world_quiet.proofs.Rounds.{offer_of, rounds_lower}
+use Rattle.st_world_quiet.proofs.EndRounds.{offer_of, rounds_lower}
 use Rattle.st_world_quiet.proofs.Exchanging.{exchanges_rounds}
 use Rattle.st_world_quiet.proofs.Running.{run_delivered}
 use Rattle.st_world_quiet.proofs.Trips.{goes_sends, receiving_still, trips_exchanges}

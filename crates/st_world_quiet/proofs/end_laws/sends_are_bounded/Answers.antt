@@ -1,5 +1,5 @@
 use Rattle.st_world_quiet.proofs.end_laws.sends_are_bounded.Goals as goal
-use Rattle.st_world_quiet.proofs.Rounds.{rounds_lower}
+use Rattle.st_world_quiet.proofs.EndRounds.{rounds_lower}
 use Rattle.st_world_quiet.proofs.Bound.{opening_quiet, sends_bounded}
 
 pub returns-clause-bounded : goal.returns-clause-bounded

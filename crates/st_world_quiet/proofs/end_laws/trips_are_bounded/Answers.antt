@@ -1,6 +1,6 @@
 use Rattle.st_world_quiet.proofs.end_laws.trips_are_bounded.Goals as goal
 use Rattle.st_world_quiet.proofs.Bound.{opening_quiet, sends_bounded}
-use Rattle.st_world_quiet.proofs.Rounds.{rounds_lower}
+use Rattle.st_world_quiet.proofs.EndRounds.{rounds_lower}
 use Rattle.st_world_quiet.proofs.Exchanging.{all_delivered, exchanges_rounds}
 use Rattle.st_world_quiet.proofs.Trips.{trips_exchanges}
 
