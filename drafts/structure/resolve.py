@@ -5,7 +5,7 @@
   itself, and that file has each name. `declared.MODULE.TYPE` leads to a module of src/ that defines the type.
 - Each `use CRATE::{names}` names what that crate's lib.rt passes on, and `crate::module::Name` a module that has the name.
 - The lists of lib.rt and Lib.antt have all files and no others; the lines of crates.txt are in their order, each crate once.
-Each finding is a line. It reads no types and proves nothing: the front end (`front.py`) and the prover come after it."""
+Each finding is a line. It reads no types and proves nothing: the front end and the prover come after it."""
 import glob
 import os
 import re

@@ -1,9 +1,9 @@
 #!/usr/bin/env python3
-"""surface.py [TOP] [--write]: the public surface that the papers ask of each of the sixteen crates, against what the crates export.
+"""surface.py [TOP]: the public surface that is asked of each of sixteen crates, against what the crates export.
 
 A name is offered if the crate's lib.rt passes it on, of a module of its own or of a crate below; `Type::word` is a method, a variant or a
-field of a type that is offered. A name that is missing has the crate from which `pub use` could pass it on: with its line in crates.txt
-there already, or to be put there, or not at all (it would be above). --write writes the table to SURFACE.md beside this script."""
+field of a type that is offered. A name that is missing is a line, with the crate from which `pub use` could pass it on: with its line in
+crates.txt there already, or to be put there, or not at all (it would be above). The last line counts."""
 import glob
 import os
 import re
@@ -54,7 +54,7 @@ ASKED = {
 
 
 def asked():
-    """Of each crate the names that the papers ask for, a type's word as TYPE::WORD; and number and inner of each error."""
+    """Of each crate the names that are asked for, a type's word as TYPE::WORD; and number and inner of each error."""
     for crate, text in ASKED.items():
         names = []
         for part in [*text.split(";"), *([ERRORS[crate] + " number inner"] if crate in ERRORS else [])]:
@@ -133,33 +133,16 @@ class Surface:
 def main(arguments):
     top = os.path.realpath(next((it for it in arguments if not it.startswith("--")), "."))
     os.chdir(top)
-    surface, lines, total, lacking = Surface(), [], 0, 0
+    surface, total, lacking = Surface(), 0, 0
     for crate, names in asked():
         missing = [it for it in names if not surface.has(crate, it)]
         missing = [it for it in missing if "::" not in it or it.split("::")[0] not in missing]
         total, lacking = total + len(names), lacking + len(missing)
-        offered = sum(surface.has(crate, it) for it in names)
-        others = sorted(set(surface.exports[crate]) - {it.split("::")[0] for it in names})
-        where = "<br>".join(f"`{it}`: {surface.from_where(crate, it)}" for it in missing)
-        must = ", ".join(f"`{it}`" for it in names if "::" not in it)
-        lines.append(f"| {crate} | {must} | {offered} of {len(names)} | {where or 'nothing'} | {', '.join(f'`{it}`' for it in others)} |")
         for it in missing:
             print(f"{crate} {it}: {surface.from_where(crate, it)}")
     print(f"{total} names and words asked, {lacking} missing")
-    if "--write" in arguments:
-        with open(f"{os.path.dirname(os.path.realpath(__file__))}/SURFACE.md", "w", encoding="utf-8") as file:
-            file.write(HEAD + "\n".join(lines) + f"\n\n{total} names and words are asked for; {lacking} are missing (a type that is missing counts once).\n")
     return 1 if lacking else 0
 
-
-HEAD = """# The public surface of the sixteen crates
-
-Written by `surface.py --write` over a tree; the counts are of names, and of methods, variants and fields of types (`number` and
-`inner` of each error too). What is missing has the way by which it can be passed on. The last column has what a crate exports beyond.
-
-| Crate | Names asked | Offered | Missing, and from where | Beyond |
-|---|---|---|---|---|
-"""
 
 if __name__ == "__main__":
     sys.exit(main(sys.argv[1:]))
