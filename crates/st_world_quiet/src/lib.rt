@@ -16,7 +16,7 @@
 //! define the same runs if some Sends are lost, or the answers to them.
 //!
 //! Played: `quiet` has bytes and an amount for each stream as arguments, and what it plays is a `QuietRun`: all is
-//! delivered, and the client sends no more Prepares than the bound. `specs/Playing.antt` defines the parts of a run and
+//! delivered, and the client sends no more Prepares than the bound. By the trait `Quiet` it is a method of the world. `specs/Playing.antt` defines the parts of a run and
 //! why it may end early. `lossy` plays the same with losses: a list says of each Send what becomes of it
 //! (`specs/Fates.antt`).
 #![tactic(auto)]
@@ -29,6 +29,7 @@ mod following;
 mod hop_laws;
 mod laws;
 mod lossy_run;
+mod method;
 mod most;
 mod opening;
 mod rounds;
@@ -56,4 +57,5 @@ pub use hop_laws::{
 };
 pub use laws::{a_chain_with_room_may_lose, a_chain_with_room_may_play};
 pub use lossy_run::{LossyDelivery, lossy};
-pub use run::{Delivery, quiet};
+pub use method::Quiet;
+pub use run::Delivery;

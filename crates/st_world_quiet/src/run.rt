@@ -104,17 +104,8 @@ fn play_lawful<A: Allocator + Copy>(
     Ok(Delivery { trace, sends })
 }
 
-/// Plays a lossless run of a world in which nothing has happened, with the bytes `input` and the amount `money` of each
-/// stream, in units of the client's asset. The server raises the receive max of each stream to its amount. The client
-/// opens the streams, offers and writes. Then, at moment 0, the client sends a Prepare with its number as IV, which is
-/// forwarded over all hops; the answer is sent back; the server reads all there is; and the client writes on, until
-/// nothing is left to send. A last read of each stream gives its end.
-///
-/// Fails with `BadInput` unless there are 1 to 32 streams and as many amounts. Fails with `NoMemory` if the world could
-/// not record an event; the trace is then that of the events before it. If a call ran out of memory, the run ends
-/// there, and its trace says so. Otherwise, under the premises of st_world_quiet's `MayPlay`, all was delivered, by no more
-/// Prepares than the bound.
-pub fn quiet<A: Allocator + Copy>(
+/// The run that `Quiet::quiet` plays.
+pub(crate) fn quiet<A: Allocator + Copy>(
     world: World<A>,
     input: &[&[u8]],
     money: &[u64],

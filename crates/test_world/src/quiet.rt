@@ -3,7 +3,7 @@
 use st_sender::{EndConfig, MAX_PACKETS};
 use st_world::{Trace, World};
 use st_world_parts::Side;
-use st_world_quiet::{Delivery, Fault, quiet};
+use st_world_quiet::{Delivery, Fault, Quiet};
 use std::alloc::{Allocator, Global};
 use std::process::Abort;
 use test_refusing::Refusing;
@@ -125,7 +125,7 @@ fn seen_of<A: Allocator + Copy>(
 
 /// A run. It ends in this function alone, since the prover takes more than a minute for each that drops what it left.
 fn play<A: Allocator + Copy>(world: World<A>, input: &[&[u8]], money: &[u64]) -> Seen {
-    seen_of(&quiet(world, input, money), input)
+    seen_of(&world.quiet(input, money), input)
 }
 
 /// How many Sends it takes to deliver `count` bytes over `hops` hops.
