@@ -80,7 +80,7 @@ fn filled(alloc: Global, bytes: &[u8], filling: Filling) -> Option<Outbox<Global
     Some(outbox)
 }
 
-/// Asks for the next packet so many times, and takes each back: how many there were. `None` if the streams cannot be filled.
+/// Asks for the next packet `times` times, and takes each back: how many there were. `None` if the streams cannot be filled.
 pub(crate) fn ask_again(alloc: Global, bytes: &[u8], filling: Filling) -> Option<u64> {
     let mut outbox = filled(alloc, bytes, filling)?;
     let mut packets: u64 = 0;
