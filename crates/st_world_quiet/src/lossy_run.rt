@@ -165,7 +165,7 @@ fn play_lawful_fated<A: Allocator + Copy>(
 /// and writes. Of each stream at most 262,144 bytes are written, and nothing after the first Send.
 ///
 /// Fails with `BadInput` unless there are 1 to 32 streams, with an amount and a receive max for each, and with
-/// `NoMemory` as `quiet` does. Otherwise, under the premises of st_world_quiet's `MayPlayLossy`, all was delivered. The run
+/// `NoMemory` as `quiet` does. Otherwise, under the premises of `MayPlayLossy` (specs/LostWorlds.antt), all was delivered. The run
 /// has no more Sends than a lossless one and one more for each that is lost. The server's credit is exactly the money and
 /// what the lost answers carried.
 pub fn lossy<A: Allocator + Copy>(

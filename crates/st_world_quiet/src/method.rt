@@ -27,8 +27,8 @@ pub trait Quiet<A: Allocator + Copy>: Sized {
     ///
     /// Fails with `BadInput` unless there are 1 to 32 streams and as many amounts. Fails with `NoMemory` if the world could
     /// not record an event; the trace is then that of the events before it. If a call ran out of memory, the run ends
-    /// there, and its trace says so. Otherwise, under the premises of st_world_quiet's `MayPlay`, all was delivered, by no more
-    /// Prepares than the bound.
+    /// there, and its trace says so. Otherwise, under the premises of `MayPlay` (specs/Plays.antt), all was delivered, by no
+    /// more Prepares than the bound.
     fn quiet(self, input: &[&[u8]], money: &[u64]) -> Result<Delivery<A>, (Fault, Trace<A>)>
         ensures bad_input { are_lawful (bytes_of input.now) money.now ≡ false → IsErrAnd result (λ e. (e.0 ≡ Fault.BadInput) × (e.1 ≡ left_of (world self))) }
         ensures only_memory { are_lawful (bytes_of input.now) money.now ≡ true → IfErr result (λ e. e.0 ≡ Fault.NoMemory) }
