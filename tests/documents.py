@@ -15,6 +15,8 @@ README, OPERATING, SECURITY, EMBEDDING: the levels of processors that they name 
 of GLIBC that they name is the one that the built library, or program, asks for. If neither is built, that is skipped, and a line
 says so.
 PROOFS: the crates that are trusted are those of the kit that crates.txt names.
+LIBRARY: each crate exports what its row has, with the methods, fields and variants, and each of EXPORTING has a row. One of the
+crates of each row of the first table exports the names of that row.
 All documents but CHANGELOG and COMPARED: a name in code that has `_` or a capital within is in some source, a path in code
 leads to a file, and the number of a fault is that of docs/errors.toml.
 Each finding is a line; the last line counts what was compared without a finding (tables for the most part), and findings."""
@@ -27,6 +29,7 @@ import sys
 import tomllib
 
 import repository
+import surface
 from repository import TOP, files, read
 
 # The name of a crate, by its family.
@@ -375,6 +378,35 @@ def check_limits(count):
     count.compared()
 
 
+# ---- what the crates export
+
+# The crates that have a row in docs/LIBRARY.md, in its order.
+EXPORTING = (
+    "st_oer st_ilp st_frames st_aes st_keys st_hop st_reassembly st_sender st_receiver st_end st_world st_queues st_hub st_http st_file "
+    "ilpstream"
+).split()
+
+
+def check_exports(count):
+    where = "docs/LIBRARY.md"
+    rows = rows_of(where, "Crate", count)
+    count.same(where, {crate for _, (crate, _) in rows}, set(EXPORTING), "EXPORTING")
+    count.check([crate for _, (crate, _) in rows] == EXPORTING, f"{where}: the rows are not in the order of EXPORTING, each once")
+    known = 0
+    for line, (crate, names) in rows:
+        for path in [path for code in CODE.findall(names) for path in surface.paths(code)]:
+            known += 1
+            count.check(surface.offers(crate, path), f"{where}:{line}: {crate} does not export {path}")
+            count.check(not surface.offers(crate, f"{path}_x"), f"{where}:{line}: {path}_x was found in {crate}, and there is none")
+        count.compared()
+    count.check(known > 420, f"{where}: only {known} names were read")
+    for line, cells in rows_of(where, "I want to", count):
+        for name in CODE.findall(cells[2]):
+            found = any(surface.has(crate, name) for crate in re.findall(r"\w+", cells[1]))
+            count.check(found, f"{where}:{line}: {cells[1]} does not export {name}")
+        count.compared()
+
+
 # ---- conformance
 
 STATUSES = {"yes", "otherwise", "no", "host"}
@@ -591,6 +623,7 @@ def main():
     check_calls(count)
     check_lemmas(count)
     check_limits(count)
+    check_exports(count)
     check_conformance(count)
     check_names_in_code(count)
     check_levels(count)
