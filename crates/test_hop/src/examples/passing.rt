@@ -1,8 +1,7 @@
 //! A Prepare that passes through a hop.
 
-use st_hop::{Account, HopError, HopState, Route, Verdict};
-use st_ilp::Moment;
-use st_links::{Link, Outcome};
+use st_hop::{Account, HopError, HopState, Moment, Outcome, Route, Verdict};
+use st_links::Link;
 use std::alloc::Global;
 
 /// A hop between account 0, for `example.a`, and account 1, for `example.b`: each may owe 100.

@@ -1,8 +1,6 @@
 //! A ticket in the slot of a caller.
 
-use st_hop::{HopState, Ticket};
-use st_ilp::Moment;
-use st_links::Outcome;
+use st_hop::{HopState, Moment, Outcome, Ticket};
 use std::alloc::Global;
 
 /// Settles the ticket that a slot keeps, and empties the slot.

@@ -1,9 +1,8 @@
 //! An end under a lock.
 
-use st_hub::{Bench, HubError, Turn};
+use st_hub::{Bench, HubError, Link, Outcome, StreamWriter, Turn};
 use st_ilp::Moment;
-use st_links::{Link, Outcome};
-use st_queues::{HubName, QueueError, StreamWriter};
+use st_queues::{HubName, QueueError};
 use std::alloc::Global;
 use std::sync::Wait;
 

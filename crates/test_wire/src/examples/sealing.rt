@@ -1,7 +1,6 @@
 //! A STREAM packet that is sealed and opened.
 
-use st_frames::Frame;
-use st_keys::{KeyError, Keys};
+use st_keys::{Frame, KeyError, Keys};
 use std::alloc::Global;
 
 /// Seals "hi", the first bytes of stream 1, for an ILP Prepare, and opens the payload as the peer does, who has the secret.

@@ -1,10 +1,6 @@
 //! Two ends in memory.
 
-use st_end::{EndError, EndState, Role};
-use st_ilp::Moment;
-use st_keys::Keys;
-use st_receiver::Got;
-use st_sender::EndConfig;
+use st_end::{EndConfig, EndError, EndState, Got, Keys, Moment, Role};
 use std::alloc::Global;
 
 /// A client and a server that share a secret.
