@@ -1,4 +1,4 @@
-//! Examples of the README, word for word: what they read or do, and what they answer. Each can be pasted as it is.
+//! Examples of docs/LIBRARY.md, word for word: what they read or do, and what they answer. Each can be pasted as it is.
 
 mod fields;
 mod packets;
