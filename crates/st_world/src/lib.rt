@@ -31,7 +31,12 @@ pub use laws::{
     what_is_pending_bounds_the_cost,
 };
 pub use opening::MAX_HOPS;
+pub use st_end::EndError;
+pub use st_hop::Account;
+pub use st_ilp::Moment;
+pub use st_oer::Rate;
+pub use st_receiver::Got;
 pub use st_sender::EndConfig;
-pub use st_world_parts::Told;
+pub use st_world_parts::{EndEntry, Given, HopEntry, Ledger, Node, Party, Put, Side, Told, Way};
 pub use trace::Trace;
 pub use world::World;
