@@ -244,7 +244,7 @@ where
             fd.fd = guest.descriptor.unwrap_or(-1);
         }
         let last = self.guests.len().min(MOST_GUESTS);
-        if poll(&mut fds[..=last], time.map_or(-1, millis_of)) < 0 {
+        if poll(&mut fds[..=last], time.map_or(-1, |time| millis_of(time))) < 0 {
             thread::sleep(self.rt, Duration::from_millis(PAUSE));
         }
         Ok(Ready {
