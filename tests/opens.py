@@ -6,6 +6,7 @@ import glob
 import itertools
 import os
 import re
+import select
 import stat
 import subprocess
 import sys
@@ -199,12 +200,19 @@ def run_at(play, words, errors):
     return ran.stderr
 
 
+def came_to(above):
+    """What was written to a terminal. The system hands it on after the writer, so it is read until nothing comes for half a second."""
+    found = b""
+    while select.select([above], [], [], 0.5)[0]:
+        found += above.read(4_096)
+    return found.replace(b"\r\n", b"\n").decode()
+
+
 def told_by_command(play, words):
     """What a command writes to standard error, if that is a terminal, and if it is a pipe."""
     above, below = play.terminal()
     run_at(play, words, below)
-    os.set_blocking(above.fileno(), False)
-    return above.read(4_096).replace(b"\r\n", b"\n").decode(), run_at(play, words, subprocess.PIPE).decode()
+    return came_to(above), run_at(play, words, subprocess.PIPE).decode()
 
 
 def ways_of(play, command, *others):
