@@ -992,6 +992,20 @@ def a_torn_commit_is_no_damage(play):
     return f"seed {SEED}: {dict(found)}"
 
 
+@test()
+def pages_have_sums_and_each_log_has_salts_of_its_own(play):
+    """A page ends with 8 bytes for its sum, which byte 20 of the file says. The 8 bytes of a log from byte 16 on are its salts."""
+    hub, salts = Hub(play, f"{play.room}/books"), []
+    hub.some_sums()
+    for _ in range(6):
+        hub.served(0.3)
+        salts.append(read_bytes(f"{hub.path}-wal")[16:24])
+    want(read_bytes(hub.path)[20] == 8, f"{read_bytes(hub.path)[20]} bytes for a sum")
+    want(len(set(salts)) == 6, f"salts {[it.hex() for it in salts]}")
+    hub.close()
+    return "6 logs"
+
+
 def begins_of(path):
     """The database file, and the header of its log."""
     return [it[:None if not end else 32] for end, it in sorted(contents(path).items())]
