@@ -1,4 +1,4 @@
-//! A till that two threads share.
+//! A till that threads share.
 
 ghost use Rattle.std.specs.Prelude.{⊤};
 
@@ -10,6 +10,7 @@ use std::sync::Wait;
 use std::test::Fail;
 use std::thread;
 use std::thread::Threads;
+use std::time::{Clock, Duration};
 
 /// Books that sum up claims and dues, and refuse with 93 what would bring the claims above `most`.
 #[derive(Drop)]
@@ -126,5 +127,71 @@ fn a_till_for_nobody_is_full(rt: HostRuntime) -> Result<(), Fail> {
     let till = Till::new(rt.alloc(), books, 0)?;
     assert!(rt; matches!(deposit(&rt, &till, BOOKING), Fate::Refused));
     assert!(rt; till.into_books().0.claims == 0);
+    Ok(())
+}
+
+/// Books whose first commit takes 100 ms, and that sum up claims.
+#[derive(Drop)]
+struct Slow<'a, R: Clock> {
+    rt: &'a R,
+    commits: u64,
+    claims: u64,
+}
+
+impl<R: Clock> Keeper for Slow<'_, R> {
+    ghost commits = { λ _ _ _. ⊤ };
+
+    ghost keeps = { λ _ _ _ _. ⊤ };
+
+    fn commit(&mut self, bookings: &[Booking]) -> Result<(), u8> {
+        if self.commits == 0 {
+            thread::sleep(self.rt, Duration::from_millis(100));
+        }
+        self.commits = self.commits.saturating_add(1);
+        for booking in bookings {
+            self.claims = self.claims.saturating_add(booking.claim);
+        }
+        Ok(())
+    }
+}
+
+/// Whether one deposit is stored.
+fn is_stored<R: Wait + Clock>(rt: &R, till: &Till<Slow<'_, R>, Global>) -> bool {
+    matches!(deposit(rt, till, BOOKING), Fate::Stored(_))
+}
+
+/// Whether the deposits of two threads are.
+fn are_two<R: Threads + Wait + Clock + Sync>(rt: &R, till: &Till<Slow<'_, R>, Global>) -> bool {
+    let (one, other) = thread::join(rt, || is_stored(rt, till), || is_stored(rt, till));
+    one && other
+}
+
+/// Whether those of four are.
+fn are_four<R: Threads + Wait + Clock + Sync>(rt: &R, till: &Till<Slow<'_, R>, Global>) -> bool {
+    let (one, other) = thread::join(rt, || are_two(rt, till), || are_two(rt, till));
+    one && other
+}
+
+/// Whether those of eight are.
+fn are_eight<R: Threads + Wait + Clock + Sync>(rt: &R, till: &Till<Slow<'_, R>, Global>) -> bool {
+    let (one, other) = thread::join(rt, || are_four(rt, till), || are_four(rt, till));
+    one && other
+}
+
+/// Of twelve threads most wait for the first commit. Each booking is stored once, several by one commit.
+#[test]
+fn twelve_threads_deposit(rt: HostRuntime) -> Result<(), Fail> {
+    let rt = &rt;
+    let books = Slow {
+        rt,
+        commits: 0,
+        claims: 0,
+    };
+    let till = Till::new(rt.alloc(), books, 12)?;
+    let (eight, four) = thread::join(rt, || are_eight(rt, &till), || are_four(rt, &till));
+    assert!(rt; eight && four);
+    let (books, refused) = till.into_books();
+    assert!(rt; books.claims == 36 && refused.is_none());
+    assert!(rt; books.commits < 12);
     Ok(())
 }
