@@ -38,6 +38,8 @@ mod gates;
 #[cfg(test)]
 mod hubs;
 #[cfg(test)]
+mod limits;
+#[cfg(test)]
 mod links;
 #[cfg(test)]
 mod memory;

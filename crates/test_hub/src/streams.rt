@@ -55,7 +55,7 @@ fn next<N: HubName<Global>, R: Wait + Abort>(
 }
 
 /// Sends all that a hub has to the other one.
-fn send_all<N: HubName<Global>, M: HubName<Global>, R: Wait + Abort + std::time::Clock>(
+pub(crate) fn send_all<N: HubName<Global>, M: HubName<Global>, R: Wait + Abort + std::time::Clock>(
     rt: &R,
     from: &Bench<N, Global>,
     to: &Bench<M, Global>,
