@@ -39,7 +39,7 @@ for packets in 66 4195 67109; do # the fewest that hold as many bytes
 done
 
 microseconds() { # that one next packet takes by a program: PROGRAM STREAMS FLIGHTS BUSY
-    local times=$((400000 / $2)) whole empty
+    local times=200000 whole empty
     whole=$(milliseconds "$1" cost "$2" "$3" "$times" "$4")
     empty=$(milliseconds "$1" cost "$2" "$3" 0 "$4")
     awk -v taken=$((whole - empty)) -v times="$times" 'BEGIN { printf "%.3f\n", taken * 1000 / times }'
