@@ -2,7 +2,7 @@
 ghost use Rattle.std.specs.Prelude.{◌≡◌, ℕ, IfSome};
 ghost use Rattle.st_queues.specs.Lanes.{AllNamed, Fresh, IsOurs, ring_at};
 
-use st_queues::{HubName, Item, Named, QueueError, Rings, StreamWriter, WriteEnd, WriteLane};
+use st_queues::{HubName, Item, Named, QueueError, Rings, StreamWriter, WriteEnd, WriteRing};
 use std::alloc::Global;
 use std::marker::Brand;
 use std::thread;
@@ -77,9 +77,9 @@ fn take_all(ring: &mut WriteEnd<Global>) -> u64 {
 
 /// The ring of this number.
 fn lane_at<N: HubName<Global>>(
-    mut lanes: Vec<WriteLane<Global>>,
+    mut lanes: Vec<WriteRing<Global>>,
     ring: usize,
-) -> Option<WriteLane<Global>>
+) -> Option<WriteRing<Global>>
     requires { AllNamed N.write_ring lanes.items }
     ensures { IfSome result (λ x. Fresh ring x × IsOurs N.write_ring x) }
 {
@@ -103,7 +103,7 @@ fn pass_named<N: HubName<Global> + Send + Sync, R: Threads + Sync>(
     let Named { writes, .. } = rings.named::<N>();
     let mut lane = lane_at::<N>(writes, 0)?;
     let mut writer = lane.hand_out::<N>(alloc)?;
-    let WriteLane { mut end, .. } = lane;
+    let WriteRing { mut end, .. } = lane;
     let (_, came) = thread::join(
         rt,
         || write_all(alloc, &mut writer, chunks, length),

@@ -150,17 +150,17 @@ abbrev pub IsAsked : {K : Type 0} → (old new : Receiver K) → Type 0
 IsAsked {K} old new = AskedOnce (λ (x : Receiver K) account body answer (y : Receiver K). Answers (end_in x) body answer (end_in y)) old new
 
 -- an output's count of errors after it: one more if the result is a fault of it, and the same otherwise
-abbrev pub faults_told : {T : Type 0} → Result T TransferError → ℕ → ℕ
-faults_told (Ok x) count = count
-faults_told (Err (File e)) count = file.faults_told {T = Unit {0}} (Err e) count
-faults_told (Err Failed) count = count
-faults_told (Err Stalled) count = count
-faults_told (Err Rings) count = count
-faults_told (Err Accept) count = count
-faults_told (Err Turns) count = count
-faults_told (Err Silent) count = count
-faults_told (Err IvFault) count = count
-faults_told (Err NoMemory) count = count
-faults_told (Err (End e)) count = count
-faults_told (Err (Desk e)) count = count
-faults_told (Err (Books n)) count = count
+abbrev pub faults_reported : {T : Type 0} → Result T TransferError → ℕ → ℕ
+faults_reported (Ok x) count = count
+faults_reported (Err (File e)) count = file.faults_reported {T = Unit {0}} (Err e) count
+faults_reported (Err Failed) count = count
+faults_reported (Err Stalled) count = count
+faults_reported (Err Rings) count = count
+faults_reported (Err Accept) count = count
+faults_reported (Err Turns) count = count
+faults_reported (Err Silent) count = count
+faults_reported (Err IvFault) count = count
+faults_reported (Err NoMemory) count = count
+faults_reported (Err (End e)) count = count
+faults_reported (Err (Desk e)) count = count
+faults_reported (Err (Books n)) count = count

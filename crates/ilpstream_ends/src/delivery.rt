@@ -5,7 +5,7 @@ ghost use Rattle.st_devices.specs.Tallies.{device_of, tally_of};
 ghost use Rattle.st_receiver.specs.Decided.{got_seen};
 ghost use Rattle.st_end.specs.State as state;
 ghost use Rattle.st_end.specs.declared.error.EndError.TheVariants as refusals;
-ghost use Rattle.ilpstream_ends.specs.Keeping.{Delivers, Gives, IsOfDelivery, Kept, faults_told};
+ghost use Rattle.ilpstream_ends.specs.Keeping.{Delivers, Gives, IsOfDelivery, Kept, faults_reported};
 
 use ilpstream_serving::TransferError;
 use st_devices::Counting;
@@ -53,7 +53,7 @@ pub(crate) fn deliver<W: Write>(
     ensures kept { (start : state.EndState) (before : Option (List ℕ)) → Kept start before end.old (W.contents (device_of writer.old)) written.old → Delivers start before end.new (W.contents (device_of writer.new)) written.new result }
     ensures why { IfErr result IsOfDelivery }
     ensures flushed { OnOk result ((tally_of writer.new).flushed ≡ true) }
-    ensures faults { (tally_of writer.new).faults ≡ faults_told result (tally_of writer.old).faults }
+    ensures faults { (tally_of writer.new).faults ≡ faults_reported result (tally_of writer.old).faults }
 {
     while *turns > 0 {
         *turns -= 1;

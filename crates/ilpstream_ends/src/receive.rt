@@ -5,7 +5,7 @@ ghost use Rattle.st_devices.specs.Tallies.{device_of, tally_of};
 ghost use Rattle.st_end.specs.Calls as calls;
 ghost use Rattle.st_end.specs.Seen.{totals_seen};
 ghost use Rattle.ilpstream_serving.specs.Answering.{IsWholeAt};
-ghost use Rattle.ilpstream_ends.specs.Keeping.{IsAsked, Receives, ReceivesFrom, TellsTotals, faults_told, file_stream};
+ghost use Rattle.ilpstream_ends.specs.Keeping.{IsAsked, Receives, ReceivesFrom, TellsTotals, faults_reported, file_stream};
 ghost use Rattle.ilpstream_serving.specs.declared.error.TransferError.TheVariants.{Accept, Silent, Turns};
 
 use crate::delivery::{Delivered, STREAM, deliver};
@@ -46,7 +46,7 @@ where
     L::Stream: Read + Write + OpenStream,
     ensures told { Receives receiver.old.end receiver.new.end (W.contents (device_of writer.old)) (W.contents (device_of writer.new)) result }
     ensures flushed { OnOk result ((tally_of writer.new).flushed ≡ true) }
-    ensures faults { (tally_of writer.new).faults ≡ faults_told result (tally_of writer.old).faults }
+    ensures faults { (tally_of writer.new).faults ≡ faults_reported result (tally_of writer.old).faults }
     ensures patient { result ≡ Err Silent → IsSome terms.entry.patience }
     ensures turned { result ≡ Err Turns → lobby.new.left ≡ 0 }
     ensures unaccepted { result ≡ Err Accept → 0 < lobby.new.left }
@@ -94,7 +94,7 @@ where
     L::Stream: Read + Write + OpenStream,
     ensures told { ReceivesFrom (calls.set_receive_max receiver.old.end file_stream terms.entry.receive_max) receiver.new.end (W.contents (device_of writer.old)) (W.contents (device_of writer.new)) result }
     ensures flushed { OnOk result ((tally_of writer.new).flushed ≡ true) }
-    ensures faults { (tally_of writer.new).faults ≡ faults_told result (tally_of writer.old).faults }
+    ensures faults { (tally_of writer.new).faults ≡ faults_reported result (tally_of writer.old).faults }
     ensures patient { result ≡ Err Silent → IsSome terms.entry.patience }
 {
     match receiver.end.set_receive_max(STREAM, terms.receive_max) {
@@ -141,7 +141,7 @@ where
     L::Stream: Read + Write + OpenStream,
     ensures told { TellsTotals (calls.set_receive_max end file_stream terms.entry.receive_max) (W.contents (device_of writer.old)) (W.contents (device_of writer.new)) (totals_seen result.totals) result.result }
     ensures flushed { OnOk result.result ((tally_of writer.new).flushed ≡ true) }
-    ensures faults { (tally_of writer.new).faults ≡ faults_told result.result (tally_of writer.old).faults }
+    ensures faults { (tally_of writer.new).faults ≡ faults_reported result.result (tally_of writer.old).faults }
     ensures patient { result.result ≡ Err Silent → IsSome terms.entry.patience }
 {
     let mut receiver = Receiver {

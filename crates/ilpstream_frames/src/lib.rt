@@ -18,3 +18,4 @@ mod texts;
 pub use error::{Fault, LineError};
 pub use frames::{Lines, TURNS, answer_frames, run_frames, say, tell_fault};
 pub use output::put;
+pub use st_devices::{CountRead, CountWrite};

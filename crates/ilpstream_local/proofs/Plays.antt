@@ -8,7 +8,7 @@ use Rattle.std.proofs.lemmas.List.Elements.{All-nil, All-push}
 use Rattle.ilpstream_settings.specs.declared.settings.LocalSettings.{LocalSettings}
 use Rattle.st_end.specs.Calls.{Answer}
 use Rattle.st_world_parts.specs.Sides.{Client, Both, at}
-use Rattle.st_world_parts.specs.Ledgers.{Ledger, ledger_or}
+use Rattle.st_world_parts.specs.StreamLogs.{StreamLog, ledger_or}
 use Rattle.st_world_parts.specs.State.{World}
 use Rattle.st_world_parts.specs.Events.{Event, Write, Told, Call}
 use Rattle.st_world.specs.Steps.{Happens}
@@ -24,8 +24,8 @@ use Rattle.ilpstream_local.proofs.Cuts.{all_sent, nothing_sent, sent_apart, sent
 -- if nothing has happened nothing is written
 pub opened_blank : (c : Chain) (w : World) (k : ℕ) → w ≡ opening c → written_on w k ≡ []
 opened_blank c w k is =
-    let none : fmap.get {X = Ledger} {R = nat_cmp} fmap.empty k ≡ None = fmap.get-empty nat_cmp k in
-    ap (λ (x : World). written_on x k) is ∙ ap (λ (o : Option Ledger). (ledger_or o).written) none
+    let none : fmap.get {X = StreamLog} {R = nat_cmp} fmap.empty k ≡ None = fmap.get-empty nat_cmp k in
+    ap (λ (x : World). written_on x k) is ∙ ap (λ (o : Option StreamLog). (ledger_or o).written) none
 
 -- no event yet
 pub plays_none : (asked : LocalSettings) (w : World) → w ≡ opening (local_chain asked.hops) → Plays asked 0 w
@@ -41,11 +41,11 @@ plays_next asked n w v event told p fits next = record {
 }
 
 -- the law of every run, if the reader of a stream has read its end
-pub ended_whole : (t : Left) (w : World) (k : ℕ) (l : Ledger) (told : Bool) → t ≡ left_of w → Holds w → fmap.get (at t.ledgers Client) k ≡ Some l → told ≡ l.told_end → told ≡ true → read_on w k ≡ written_on w k
+pub ended_whole : (t : Left) (w : World) (k : ℕ) (l : StreamLog) (told : Bool) → t ≡ left_of w → Holds w → fmap.get (at t.ledgers Client) k ≡ Some l → told ≡ l.saw_end → told ≡ true → read_on w k ≡ written_on w k
 ended_whole t w k l told is holds found same ended =
     let kept : t.ledgers ≡ w.ledgers = ap (λ (x : Left). x.ledgers) is in
-    let end : (ledger_or (fmap.get t.ledgers.client k)).told_end ≡ true = ap (λ (o : Option Ledger). (ledger_or o).told_end) found ∙ (sym same ∙ ended) in
-    (holds.ends Client k (subst (λ (m : Both (fmap.FinMap nat_cmp Ledger)). (ledger_or (fmap.get m.client k)).told_end ≡ true) kept end)).1
+    let end : (ledger_or (fmap.get t.ledgers.client k)).saw_end ≡ true = ap (λ (o : Option StreamLog). (ledger_or o).saw_end) found ∙ (sym same ∙ ended) in
+    (holds.ends_are_complete Client k (subst (λ (m : Both (fmap.FinMap nat_cmp StreamLog)). (ledger_or (fmap.get m.client k)).saw_end ≡ true) kept end)).1
 
 -- a write at the client was accepted, or changed nothing
 pub writes_called : (p q : Played) (k : ℕ) (xs : List ℕ) (a : Answer) → q.asked ≡ p.asked → q.events ≡ p.events + 1 → Happens p.world (Write Client k xs) (Call a) q.world → MatchBool (is_ok a) (Writes k xs p q) (Continues p q)

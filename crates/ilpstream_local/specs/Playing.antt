@@ -4,7 +4,7 @@ use Rattle.st_sender.specs.Sending.{Config}
 use Rattle.st_sender.specs.Configs.{config}
 use Rattle.ilpstream_settings.specs.declared.settings.LocalSettings.{LocalSettings}
 use Rattle.st_world_parts.specs.Sides.{Side, Client, Server}
-use Rattle.st_world_parts.specs.State.{World, end_at, ledger_at}
+use Rattle.st_world_parts.specs.State.{World, end_at, log_at}
 use Rattle.st_world_parts.specs.Events.{Event, Write, Arrive, Fault}
 use Rattle.st_world.specs.Runs.{Chain, Run, opening}
 use Rattle.st_world.specs.Chains.{chain_of, one_to_one, free_account}
@@ -67,10 +67,10 @@ StopsPlay p e = ⊥
 -- ---- what was written at the client and read at the server
 
 abbrev pub written_on : World → (stream : ℕ) → List ℕ
-written_on w k = (ledger_at w Client k).written
+written_on w k = (log_at w Client k).written
 
 abbrev pub read_on : World → (stream : ℕ) → List ℕ
-read_on w k = (ledger_at w Client k).read
+read_on w k = (log_at w Client k).read
 
 -- nothing is written at the client
 abbrev pub IsAside : Event → Type 0

@@ -6,7 +6,7 @@ use Rattle.std.specs.Int.{w64, to_be_bytes}
 use Rattle.ilpstream_settings.specs.declared.settings.LocalSettings.{LocalSettings}
 use Rattle.st_end.specs.Sending.{GoesNone}
 use Rattle.st_world_parts.specs.Sides.{Side, Client, Server}
-use Rattle.st_world_parts.specs.State.{World, end_at, ledger_at}
+use Rattle.st_world_parts.specs.State.{World, end_at, log_at}
 use Rattle.st_world_parts.specs.Events.{Event, OpenStream, Write, Read, Close, Send, Arrive, AnswerArrives, Fault, IsEvent, Told, Silent, Sent, Call}
 use Rattle.st_world.specs.Steps.{Step}
 use Rattle.st_world.specs.Runs.{Run, opening}
@@ -183,7 +183,7 @@ BeginsToClose size bytes sent here p q = (there : ℕ) × AreWhole size bytes se
 
 -- the server has read the end of a stream
 abbrev pub has_ended : World → (stream : ℕ) → Bool
-has_ended w k = (ledger_at w Client k).told_end
+has_ended w k = (log_at w Client k).saw_end
 
 -- a read at the server, of at most 65,536 bytes
 abbrev pub reading : (stream : ℕ) → Event

@@ -213,7 +213,7 @@ impl<A: Allocator + Copy> Play<A> {
         ensures run { Plays self.now.asked self.now.events self.now.world }
     {
         match self.world.trace().ledger(Side::Client, stream) {
-            Some(ledger) => ledger.told_end(),
+            Some(ledger) => ledger.saw_end(),
             None => false,
         }
     }

@@ -15,7 +15,7 @@ use Rattle.st_frames.specs.Frames.{Known, Packet, frames_of, ConnectionClose, Co
 use Rattle.st_keys.specs.Keys.{DerivedKeys}
 use Rattle.st_keys.specs.Sealed.{opened}
 use Rattle.st_keys.specs.declared.error.KeyError.{KeyError}
-use Rattle.st_sender.specs.Sending.{Outgoing, Flown, Data, Whole, Flight, Config, Sending, new_sending, changed_at, changed}
+use Rattle.st_sender.specs.Sending.{Outgoing, SentFrame, Data, Whole, Flight, Config, Sending, new_sending, changed_at, changed}
 use Rattle.st_sender.specs.Flights.{flight_at, without_flight}
 use Rattle.st_sender.specs.Answering.{after_acked, after_all_acked, landed, after_fulfilled, after_failed, Failure, Plain, after_told, after_all_told}
 use Rattle.st_receiver.specs.Streams.{Receiving, new_receiving}
@@ -69,7 +69,7 @@ lawful_received e r same l = lawful_as e e.sending r refl (same ∙ both_open e 
 with_same : (s : Sending) (k : ℕ) (f : Outgoing → Outgoing) (t : Sending) → Stays t s → Stays t (changed s k f)
 with_same s k f t h = (flights_stay s k f ∙ h.0, sends_stay s k f ∙ h.1)
 
-acked_stays : (s t : Sending) (f : Flown) → Stays t s → Stays t (after_acked s f)
+acked_stays : (s t : Sending) (f : SentFrame) → Stays t s → Stays t (after_acked s f)
 acked_stays s t (Data k o n) h = with_same s k _ t h
 acked_stays s t (Whole (StreamData k o xs)) h = h
 acked_stays s t (Whole (StreamMoney k n)) h = with_same s k _ t h
@@ -83,7 +83,7 @@ acked_stays s t (Whole (StreamMaxMoney k n m)) h = h
 acked_stays s t (Whole (ConnectionClose code message)) h = h
 acked_stays s t (Whole (ConnectionNewAddress address)) h = h
 
-all_acked_stays : (t : Sending) (fs : List Flown) (s : Sending) → Stays t s → Stays t (after_all_acked s fs)
+all_acked_stays : (t : Sending) (fs : List SentFrame) (s : Sending) → Stays t s → Stays t (after_all_acked s fs)
 all_acked_stays t [] s h = h
 all_acked_stays t (f ∷ fs) s h = all_acked_stays t fs (after_acked s f) (acked_stays s t f h)
 

@@ -38,6 +38,7 @@ pub use received::Received;
 pub use role::Role;
 pub use st_ilp::Moment;
 pub use st_keys::Keys;
+pub use st_oer::{Rate, is_address};
 pub use st_receiver::Got;
-pub use st_sender::EndConfig;
+pub use st_sender::{Blocked, EndConfig};
 pub use totals::Totals;

@@ -17,5 +17,6 @@ pub use error::FileError;
 pub use send::{PIECE, send_all};
 pub use sink::{Chunk, Put, Sink};
 pub use source::Source;
+pub use st_devices::{CountRead, CountWrite, Counting};
 pub use st_queues::Got;
 pub use store::{flush_all, store_all, write_piece};

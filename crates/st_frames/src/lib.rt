@@ -21,4 +21,5 @@ pub use frame::Frame;
 pub use laws::{frames_law, packet_law, prefix_law, reading_wants_no_memory, written_law};
 pub use length::packet_len;
 pub use packet::{Frames, MAX_PACKET, StreamPacket, VERSION, read_packet};
+pub use st_oer::OerError;
 pub use writing::{put_packet, write_packet};

@@ -32,6 +32,7 @@ pub use refusal::Refusal;
 pub use route::{NextHop, Route};
 pub use settling::Closing;
 pub use st_ilp::Moment;
-pub use st_links::Outcome;
+pub use st_links::{Link, Outcome};
+pub use st_oer::Rate;
 pub use ticket::{Open, Ticket};
 pub use verdict::Verdict;

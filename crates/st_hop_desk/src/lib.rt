@@ -15,5 +15,8 @@ mod till;
 pub use desk::{AccountShares, Arrived, HopDesk, Owed, SHARES};
 pub use error::DeskError;
 pub use serving::{Served, serve};
+pub use st_hop::{HopError, HopState, Ticket};
+pub use st_ilp::Moment;
+pub use st_links::{Booked, Clock, Links, Outcome};
 pub use stored::{Books, Fate, NoBooks, booking_of};
 pub use till::{AtTill, Till, deposit, refused_at};

@@ -54,16 +54,16 @@ ExplainsWrite before after text Cut = ⊥
 ExplainsWrite before after text NoMemory = ⊥
 
 -- the stream's count of errors after a call: one more if the call reports a fault, and the same otherwise
-abbrev pub faults_told : {T : Type 0} → Result T HttpError → ℕ → ℕ
-faults_told (Ok x) count = count
-faults_told (Err ReadFault) count = count_after 1 count
-faults_told (Err (WriteFault sent)) count = count_after 1 count
-faults_told (Err BadHead) count = count
-faults_told (Err (Status code)) count = count
-faults_told (Err TooLong) count = count
-faults_told (Err Cut) count = count
-faults_told (Err Turns) count = count
-faults_told (Err NoMemory) count = count
+abbrev pub faults_reported : {T : Type 0} → Result T HttpError → ℕ → ℕ
+faults_reported (Ok x) count = count
+faults_reported (Err ReadFault) count = count_after 1 count
+faults_reported (Err (WriteFault sent)) count = count_after 1 count
+faults_reported (Err BadHead) count = count
+faults_reported (Err (Status code)) count = count
+faults_reported (Err TooLong) count = count
+faults_reported (Err Cut) count = count
+faults_reported (Err Turns) count = count
+faults_reported (Err NoMemory) count = count
 
 -- each call of the stream uses up one of `turns`; if the result says that they were used up, none is left
 abbrev pub SpendsTurns : {T : Type 0} → Result T HttpError → Tally → Tally → ℕ → Type 0

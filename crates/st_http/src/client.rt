@@ -3,7 +3,7 @@
 ghost use Rattle.std.specs.Prelude.{◌≡◌, IsTrue, IfOk, IfErr};
 ghost use Rattle.st_http.specs.Texts as texts;
 ghost use Rattle.st_http.specs.Exchanges.{known, IsExchanged, ExplainsExchange};
-ghost use Rattle.st_http.specs.Reads.{SpendsTurns, faults_told};
+ghost use Rattle.st_http.specs.Reads.{SpendsTurns, faults_reported};
 ghost use Rattle.st_devices.specs.Tallies.{device_of, tally_of};
 
 use crate::error::HttpError;
@@ -36,7 +36,7 @@ pub fn exchange<S: Read + Write, A: Allocator + Copy>(
         (texts.request_text host.now token.now body.now) answer.items) }
     ensures why { IfErr result (ExplainsExchange (known S.contents S.remaining) (device_of stream.old) (device_of stream.new)
         (texts.request_text host.now token.now body.now)) }
-    ensures faults { (tally_of stream.new).faults ≡ faults_told result (tally_of stream.old).faults }
+    ensures faults { (tally_of stream.new).faults ≡ faults_reported result (tally_of stream.old).faults }
     ensures turns { SpendsTurns result (tally_of stream.old) (tally_of stream.new) turns }
 {
     let mut left = turns;

@@ -30,4 +30,5 @@ pub use laws::{
 };
 pub use reading::Reading;
 pub use server::{refuse, respond, serve_one};
+pub use st_devices::Counting;
 pub use texts::{answer_text, is_field_text, refusal_text, request_text};

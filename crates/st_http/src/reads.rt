@@ -4,7 +4,7 @@ ghost use Rattle.std.specs.Prelude.{◌≡◌, [], OnOk, IfErr};
 ghost use Rattle.std.specs.Io.KnownBytes.{Appends, Consumes};
 ghost use Rattle.st_http.specs.Message.{Says, unfinished};
 ghost use Rattle.st_http.specs.Progress.{IsWhole};
-ghost use Rattle.st_http.specs.Reads.{ExplainsRead, ExplainsWrite, faults_told};
+ghost use Rattle.st_http.specs.Reads.{ExplainsRead, ExplainsWrite, faults_reported};
 ghost use Rattle.st_http.specs.declared.error.HttpError.TheVariants.{Turns};
 ghost use Rattle.st_devices.specs.Tallies.{TakesTurns, device_of, tally_of};
 
@@ -35,7 +35,7 @@ pub fn read_message<S: Read, A: Allocator + Copy>(
     ensures whole { OnOk result (IsWhole reading.new.standing) }
     ensures why { IfErr result (ExplainsRead reading.old.expected
         (record { before = S.remaining (device_of stream.old); after = S.remaining (device_of stream.new) })) }
-    ensures faults { (tally_of stream.new).faults ≡ faults_told result (tally_of stream.old).faults }
+    ensures faults { (tally_of stream.new).faults ≡ faults_reported result (tally_of stream.old).faults }
     ensures turns { TakesTurns (tally_of stream.old) (tally_of stream.new) turns.old turns.new }
     ensures out_of_turns { IfErr result (λ e. e ≡ Turns → turns.new ≡ 0) }
 {
@@ -73,7 +73,7 @@ pub fn write_message<S: Write>(
 ) -> Result<(), HttpError>
     ensures whole { OnOk result (Appends (S.contents (device_of stream.old)) (S.contents (device_of stream.new)) text.now) }
     ensures why { IfErr result (ExplainsWrite (S.contents (device_of stream.old)) (S.contents (device_of stream.new)) text.now) }
-    ensures faults { (tally_of stream.new).faults ≡ faults_told result (tally_of stream.old).faults }
+    ensures faults { (tally_of stream.new).faults ≡ faults_reported result (tally_of stream.old).faults }
     ensures turns { TakesTurns (tally_of stream.old) (tally_of stream.new) turns.old turns.new }
     ensures out_of_turns { IfErr result (λ e. e ≡ Turns → turns.new ≡ 0) }
 {

@@ -3,7 +3,7 @@
 ghost use Rattle.std.specs.Prelude.{◌≡◌, ℕ, List, map, OnOk, IfOk, IfErr, IsSome};
 ghost use Rattle.st_http.specs.Exchanges.{known};
 ghost use Rattle.st_http.specs.Progress.{account_of, body_of};
-ghost use Rattle.st_http.specs.Reads.{SpendsTurns, faults_told};
+ghost use Rattle.st_http.specs.Reads.{SpendsTurns, faults_reported};
 ghost use Rattle.st_http.specs.declared.error.HttpError.TheVariants.{Turns};
 ghost use Rattle.st_devices.specs.Tallies.{TakesTurns, device_of, tally_of};
 ghost use Rattle.st_http.specs.Serves.{IsCalled, IsDue, IsServed, ExplainsNoResponse, ExplainsServe, Responds};
@@ -53,7 +53,7 @@ fn response_to_next<S: Read, T: Answerer, A: Allocator + Copy>(
         (record { before = S.remaining (device_of stream.old); after = S.remaining (device_of stream.new) }) answerer.old answerer.new text.items) }
     ensures why { IfErr result (ExplainsNoResponse T.gives (map (λ t. t.now) tokens.now)
         (record { before = S.remaining (device_of stream.old); after = S.remaining (device_of stream.new) }) answerer.old answerer.new) }
-    ensures faults { (tally_of stream.new).faults ≡ faults_told result (tally_of stream.old).faults }
+    ensures faults { (tally_of stream.new).faults ≡ faults_reported result (tally_of stream.old).faults }
     ensures turns { TakesTurns (tally_of stream.old) (tally_of stream.new) turns.old turns.new }
     ensures out_of_turns { IfErr result (λ e. e ≡ Turns → turns.new ≡ 0) }
 {
@@ -91,7 +91,7 @@ pub fn serve_one<S: Read + Write, T: Answerer, A: Allocator + Copy>(
         (device_of stream.old) (device_of stream.new) answerer.old answerer.new) }
     ensures why { IfErr result (ExplainsServe (known S.contents S.remaining) T.gives (map (λ t. t.now) tokens.now)
         (device_of stream.old) (device_of stream.new) answerer.old answerer.new) }
-    ensures faults { (tally_of stream.new).faults ≡ faults_told result (tally_of stream.old).faults }
+    ensures faults { (tally_of stream.new).faults ≡ faults_reported result (tally_of stream.old).faults }
     ensures turns { SpendsTurns result (tally_of stream.old) (tally_of stream.new) turns }
 {
     let mut left = turns;
@@ -117,7 +117,7 @@ pub fn respond<S: Write, T: Answerer, A: Allocator + Copy>(
     requires body { IsSome (body_of reading.now.standing) }
     ensures called { (text : List ℕ) × IsCalled T.gives reading.now.standing answerer.old answerer.new text
         × Responds (S.contents (device_of stream.old)) (S.contents (device_of stream.new)) text result }
-    ensures faults { (tally_of stream.new).faults ≡ faults_told result (tally_of stream.old).faults }
+    ensures faults { (tally_of stream.new).faults ≡ faults_reported result (tally_of stream.old).faults }
     ensures turns { TakesTurns (tally_of stream.old) (tally_of stream.new) turns.old turns.new }
     ensures out_of_turns { IfErr result (λ e. e ≡ Turns → turns.new ≡ 0) }
 {
@@ -138,7 +138,7 @@ pub fn refuse<S: Write, A: Allocator + Copy>(
     turns: &mut u64,
 ) -> Result<(), HttpError>
     ensures written { Responds (S.contents (device_of stream.old)) (S.contents (device_of stream.new)) (spec.refusal_text status) result }
-    ensures faults { (tally_of stream.new).faults ≡ faults_told result (tally_of stream.old).faults }
+    ensures faults { (tally_of stream.new).faults ≡ faults_reported result (tally_of stream.old).faults }
     ensures turns { TakesTurns (tally_of stream.old) (tally_of stream.new) turns.old turns.new }
     ensures out_of_turns { IfErr result (λ e. e ≡ Turns → turns.new ≡ 0) }
 {

@@ -14,8 +14,8 @@ use Rattle.st_queues.specs.Watching.{no_totals}
 use Rattle.st_queues.specs.Items.{delivered}
 use Rattle.st_queues.specs.Names.{RingId}
 use Rattle.st_queues.specs.Lanes.{Fresh, FreshRead, AllNamed, AllNamedReads}
-use Rattle.st_queues.specs.declared.lanes.WriteLane.{WriteLane}
-use Rattle.st_queues.specs.declared.lanes.ReadLane.{ReadLane}
+use Rattle.st_queues.specs.declared.lanes.WriteRing.{WriteRing}
+use Rattle.st_queues.specs.declared.lanes.ReadRing.{ReadRing}
 use Rattle.st_end.specs.State.{EndState}
 use Rattle.st_hub.specs.Flow.{Flow, Inlet, Outlet, no_inlet, no_outlet, inlet_at, outlet_at, rings_of, has_end, has_last, IsSent, TiedBy}
 use Rattle.st_hub.specs.Handing.{IsKnown}
@@ -46,36 +46,36 @@ none_known e s new at =
     ]
 
 module _ {A : Type 0} where
-  pub fresh_inlet : (xs : List (WriteLane A)) (n : ℕ) → ((k : ℕ) (x : WriteLane A) → slice_get xs k ≡ Some x → Fresh (n + k) x) → (r : ℕ) → inlet_at (map inlet_of xs) r ≡ no_inlet
+  pub fresh_inlet : (xs : List (WriteRing A)) (n : ℕ) → ((k : ℕ) (x : WriteRing A) → slice_get xs k ≡ Some x → Fresh (n + k) x) → (r : ℕ) → inlet_at (map inlet_of xs) r ≡ no_inlet
   fresh_inlet [] n h r = refl
   fresh_inlet (x ∷ xs) n h zero = let f = h 0 x refl in λ i. record { taken = f.1 i; out = is_here x.held f.3 i }
   fresh_inlet (x ∷ xs) n h (suc r) = fresh_inlet xs (n + 1) (λ k y e. let s : n + suc k ≡ n + 1 + k = omega arith in subst (λ m. Fresh m y) s (h (suc k) y e)) r
 
-  pub fresh_outlet : (xs : List (ReadLane A)) (n : ℕ) → ((k : ℕ) (x : ReadLane A) → slice_get xs k ≡ Some x → FreshRead (n + k) x) → (s : ℕ) → outlet_at (map outlet_of xs) s ≡ no_outlet
+  pub fresh_outlet : (xs : List (ReadRing A)) (n : ℕ) → ((k : ℕ) (x : ReadRing A) → slice_get xs k ≡ Some x → FreshRead (n + k) x) → (s : ℕ) → outlet_at (map outlet_of xs) s ≡ no_outlet
   fresh_outlet [] n h s = refl
   fresh_outlet (x ∷ xs) n h zero = let f = h 0 x refl in λ i. record { put = f.1 i; out = is_here x.held f.3 i }
   fresh_outlet (x ∷ xs) n h (suc s) = fresh_outlet xs (n + 1) (λ k y e. let m : n + suc k ≡ n + 1 + k = omega arith in subst (λ m. FreshRead m y) m (h (suc k) y e)) s
 
-  pub all_fresh_inlets : (ring : ℕ → RingId A) (xs : List (WriteLane A)) → AllNamed ring xs → (r : ℕ) → inlet_at (map inlet_of xs) r ≡ no_inlet
+  pub all_fresh_inlets : (ring : ℕ → RingId A) (xs : List (WriteRing A)) → AllNamed ring xs → (r : ℕ) → inlet_at (map inlet_of xs) r ≡ no_inlet
   all_fresh_inlets ring xs h r = fresh_inlet xs 0 (λ k x e. let s : 0 + k ≡ k = omega arith in subst (λ m. Fresh m x) (sym s) (h k x e).0) r
 
-  pub all_fresh_outlets : (ring : ℕ → RingId A) (xs : List (ReadLane A)) → AllNamedReads ring xs → (s : ℕ) → outlet_at (map outlet_of xs) s ≡ no_outlet
+  pub all_fresh_outlets : (ring : ℕ → RingId A) (xs : List (ReadRing A)) → AllNamedReads ring xs → (s : ℕ) → outlet_at (map outlet_of xs) s ≡ no_outlet
   all_fresh_outlets ring xs h s = fresh_outlet xs 0 (λ k x e. let m : 0 + k ≡ k = omega arith in subst (λ m. FreshRead m x) (sym m) (h k x e).0) s
 
-  fresh_known : (xs : List (WriteLane A)) (n : ℕ) → ((k : ℕ) (x : WriteLane A) → slice_get xs k ≡ Some x → Fresh (n + k) x) → (r : ℕ) → known_at (map known_of xs) r ≡ []
+  fresh_known : (xs : List (WriteRing A)) (n : ℕ) → ((k : ℕ) (x : WriteRing A) → slice_get xs k ≡ Some x → Fresh (n + k) x) → (r : ℕ) → known_at (map known_of xs) r ≡ []
   fresh_known [] n h r = refl
   fresh_known (x ∷ xs) n h zero = (h 0 x refl).2
   fresh_known (x ∷ xs) n h (suc r) = fresh_known xs (n + 1) (λ k y e. let s : n + suc k ≡ n + 1 + k = omega arith in subst (λ m. Fresh m y) s (h (suc k) y e)) r
 
-  fresh_room : (xs : List (ReadLane A)) (n : ℕ) → ((k : ℕ) (x : ReadLane A) → slice_get xs k ≡ Some x → FreshRead (n + k) x) → (s : ℕ) → s < length xs → room_at (map room_of xs) s ≡ 64
+  fresh_room : (xs : List (ReadRing A)) (n : ℕ) → ((k : ℕ) (x : ReadRing A) → slice_get xs k ≡ Some x → FreshRead (n + k) x) → (s : ℕ) → s < length xs → room_at (map room_of xs) s ≡ 64
   fresh_room [] n h s less = absurd (omega (arith, less))
   fresh_room (x ∷ xs) n h zero less = (h 0 x refl).2
   fresh_room (x ∷ xs) n h (suc s) less = fresh_room xs (n + 1) (λ k y e. let m : n + suc k ≡ n + 1 + k = omega arith in subst (λ m. FreshRead m y) m (h (suc k) y e)) s (omega (arith, less))
 
-  pub all_fresh_known : (ring : ℕ → RingId A) (xs : List (WriteLane A)) → AllNamed ring xs → (r : ℕ) → known_at (map known_of xs) r ≡ []
+  pub all_fresh_known : (ring : ℕ → RingId A) (xs : List (WriteRing A)) → AllNamed ring xs → (r : ℕ) → known_at (map known_of xs) r ≡ []
   all_fresh_known ring xs h r = fresh_known xs 0 (λ k x e. let s : 0 + k ≡ k = omega arith in subst (λ m. Fresh m x) (sym s) (h k x e).0) r
 
-  pub all_fresh_room : (ring : ℕ → RingId A) (xs : List (ReadLane A)) → length xs ≡ 64 → AllNamedReads ring xs → (s : ℕ) → s < 64 → room_at (map room_of xs) s ≡ 64
+  pub all_fresh_room : (ring : ℕ → RingId A) (xs : List (ReadRing A)) → length xs ≡ 64 → AllNamedReads ring xs → (s : ℕ) → s < 64 → room_at (map room_of xs) s ≡ 64
   all_fresh_room ring xs wide h s less = fresh_room xs 0 (λ k x e. let m : 0 + k ≡ k = omega arith in subst (λ m. FreshRead m x) (sym m) (h k x e).0) s (omega (arith, wide, less))
 
   fresh_tied : (f : Flow A) (s : ℕ) → IsNew f.core → ((r : ℕ) → inlet_at f.inlets r ≡ no_inlet) → ((t : ℕ) → outlet_at f.outlets t ≡ no_outlet) → TiedBy f s []
@@ -88,7 +88,7 @@ module _ {A : Type 0} where
         read = ap delivered_of inn ∙ sym (ap (λ (x : Outlet A). length (delivered x.put)) (outs s));
       }
 
-  pub fresh_sound : (w r : ℕ → RingId A) (e : EndState) (xs : List (WriteLane A)) (ys : List (ReadLane A)) → IsNew e → length xs ≡ 512 → AllNamed w xs → length ys ≡ 64 → AllNamedReads r ys → IsSound w r e xs ys
+  pub fresh_sound : (w r : ℕ → RingId A) (e : EndState) (xs : List (WriteRing A)) (ys : List (ReadRing A)) → IsNew e → length xs ≡ 512 → AllNamed w xs → length ys ≡ 64 → AllNamedReads r ys → IsSound w r e xs ys
   fresh_sound w r e xs ys new wi ws wo rs =
       let f = flow_of e xs ys in
       let ins = all_fresh_inlets w xs ws in

@@ -12,8 +12,8 @@ use Rattle.st_queues.specs.Reading.{Read}
 use Rattle.st_queues.specs.WriteEnds.{taken}
 use Rattle.st_queues.specs.ReadEnds.{put_in}
 use Rattle.st_queues.specs.declared.items.Over.TheVariants.{Open}
-use Rattle.st_queues.specs.declared.lanes.WriteLane.{WriteLane}
-use Rattle.st_queues.specs.declared.lanes.ReadLane.{ReadLane}
+use Rattle.st_queues.specs.declared.lanes.WriteRing.{WriteRing}
+use Rattle.st_queues.specs.declared.lanes.ReadRing.{ReadRing}
 use Rattle.st_end.specs.State.{EndState}
 use Rattle.st_end.specs.Calls.{has_stream}
 use Rattle.st_hub.specs.Flow.{Flow, Inlet, Outlet, no_inlet, no_outlet, inlet_at, outlet_at, writer_out, reader_out, AllTied}
@@ -57,39 +57,39 @@ opened_on e b k o width small =
     ap (λ (z : EndState). is_some (outgoing_at z.sending k)) o.after ∙ ap is_some (slot_here e.sending.streams k new_outgoing (omega arith))
 
 module _ {A : Type 0} where
-  pub handed_lane : (ring : ℕ → RingId A) (k : ℕ) (x y : WriteLane A) → IsLane ring k x → y.held ≡ None → y.end ≡ x.end → y.over ≡ x.over → IsLane ring k y
+  pub handed_lane : (ring : ℕ → RingId A) (k : ℕ) (x y : WriteRing A) → IsLane ring k x → y.held ≡ None → y.end ≡ x.end → y.over ≡ x.over → IsLane ring k y
   handed_lane ring k x y l h e o =
-      let z : WriteLane A = record { end = x.end; held = None; over = x.over } in
+      let z : WriteRing A = record { end = x.end; held = None; over = x.over } in
       let is : y ≡ z = λ i. record { end = e i; held = h i; over = o i } in
       subst (IsLane ring k) (sym is) (record { number = l.number; ours = (l.ours.0, l.ours.1, tt); over = l.over })
 
-  pub handed_read_lane : (ring : ℕ → RingId A) (k : ℕ) (x y : ReadLane A) → IsReadLane ring k x → y.held ≡ None → y.end ≡ x.end → y.over ≡ x.over → IsReadLane ring k y
+  pub handed_read_lane : (ring : ℕ → RingId A) (k : ℕ) (x y : ReadRing A) → IsReadLane ring k x → y.held ≡ None → y.end ≡ x.end → y.over ≡ x.over → IsReadLane ring k y
   handed_read_lane ring k x y l h e o =
-      let z : ReadLane A = record { end = x.end; held = None; over = x.over } in
+      let z : ReadRing A = record { end = x.end; held = None; over = x.over } in
       let is : y ≡ z = λ i. record { end = e i; held = h i; over = o i } in
       subst (IsReadLane ring k) (sym is) (record { number = l.number; ours = (l.ours.0, l.ours.1, tt); over = l.over })
 
-  pub handed_out : (xs : List (WriteLane A)) (r : ℕ) (x y : WriteLane A) → slice_get xs r ≡ Some x → y.held ≡ None → y.end ≡ x.end → map inlet_of (slice_set xs r y) ≡ writer_out (map inlet_of xs) r
+  pub handed_out : (xs : List (WriteRing A)) (r : ℕ) (x y : WriteRing A) → slice_get xs r ≡ Some x → y.held ≡ None → y.end ≡ x.end → map inlet_of (slice_set xs r y) ≡ writer_out (map inlet_of xs) r
   handed_out xs r x y at h e =
       let was : inlet_at (map inlet_of xs) r ≡ inlet_of x = at_map inlet_of xs r x no_inlet at in
       let t : taken y.end ≡ (inlet_at (map inlet_of xs) r).taken = ap taken e ∙ ap (λ (z : Inlet A). z.taken) (sym was) in
       let o : not (is_some y.held) ≡ true = ap (λ z. not (is_some z)) h in
       map-set inlet_of xs r y ∙ ap (λ z. slice_set (map inlet_of xs) r z) (λ i. record { taken = t i; out = o i })
 
-  pub handed_reader : (xs : List (ReadLane A)) (s : ℕ) (x y : ReadLane A) → slice_get xs s ≡ Some x → y.held ≡ None → y.end ≡ x.end → map outlet_of (slice_set xs s y) ≡ reader_out (map outlet_of xs) s
+  pub handed_reader : (xs : List (ReadRing A)) (s : ℕ) (x y : ReadRing A) → slice_get xs s ≡ Some x → y.held ≡ None → y.end ≡ x.end → map outlet_of (slice_set xs s y) ≡ reader_out (map outlet_of xs) s
   handed_reader xs s x y at h e =
       let was : outlet_at (map outlet_of xs) s ≡ outlet_of x = at_map outlet_of xs s x no_outlet at in
       let t : put_in y.end ≡ (outlet_at (map outlet_of xs) s).put = ap put_in e ∙ ap (λ (z : Outlet A). z.put) (sym was) in
       let o : not (is_some y.held) ≡ true = ap (λ z. not (is_some z)) h in
       map-set outlet_of xs s y ∙ ap (λ z. slice_set (map outlet_of xs) s z) (λ i. record { put = t i; out = o i })
 
-  pub found_writer : (o : Option (Written A)) (r : ℕ) (xs : List (WriteLane A)) (x : WriteLane A) → slice_get xs r ≡ Some x → x.end.ring ≡ r → (IsSome o ↔ IsSome x.held)
+  pub found_writer : (o : Option (Written A)) (r : ℕ) (xs : List (WriteRing A)) (x : WriteRing A) → slice_get xs r ≡ Some x → x.end.ring ≡ r → (IsSome o ↔ IsSome x.held)
       → IfSome o (λ w. (w.ring ≡ x.end.ring) × (w.items ≡ []) × (w.free ≡ 64) × (w.ended ≡ false)) → IfSome o (λ w. IsFreshWriter r w × ((inlet_at (map inlet_of xs) r).out ≡ false))
   found_writer None r xs x at is f h = tt
   found_writer (Some w) r xs x at is f h =
       ((h.0 ∙ is, h.1, h.2, h.3), ap (λ (z : Inlet A). z.out) (at_map inlet_of xs r x no_inlet at) ∙ is_there x.held (f.0 refl))
 
-  pub found_reader : (o : Option (Read A)) (s : ℕ) (xs : List (ReadLane A)) (x : ReadLane A) → slice_get xs s ≡ Some x → x.end.stream ≡ s → (IsSome o ↔ IsSome x.held)
+  pub found_reader : (o : Option (Read A)) (s : ℕ) (xs : List (ReadRing A)) (x : ReadRing A) → slice_get xs s ≡ Some x → x.end.stream ≡ s → (IsSome o ↔ IsSome x.held)
       → IfSome o (λ w. (w.stream ≡ x.end.stream) × (w.items ≡ []) × (w.known ≡ []) × (w.over ≡ Open)) → IfSome o (λ w. IsFreshReader s w × ((outlet_at (map outlet_of xs) s).out ≡ false))
   found_reader None s xs x at is f h = tt
   found_reader (Some w) s xs x at is f h =
@@ -148,7 +148,7 @@ module _ {A : Type 0} where
             }
       ]
 
-  pub ends_sound : (w r : ℕ → RingId A) (a b : EndState) (xs us : List (WriteLane A)) (ys vs : List (ReadLane A)) (s : ℕ) → s < 64 → Keeps 0 a b → ((j : ℕ) → j ≢ s + 1 → IsKnown b j → IsKnown a j) → has_stream b (s + 1) ≡ true
+  pub ends_sound : (w r : ℕ → RingId A) (a b : EndState) (xs us : List (WriteRing A)) (ys vs : List (ReadRing A)) (s : ℕ) → s < 64 → Keeps 0 a b → ((j : ℕ) → j ≢ s + 1 → IsKnown b j → IsKnown a j) → has_stream b (s + 1) ≡ true
       → AllLanes w us → AllReadLanes r vs → map inlet_of us ≡ writer_out (map inlet_of xs) (8 * s) → map outlet_of vs ≡ reader_out (map outlet_of ys) s → IsSound w r a xs ys → IsSound w r b us vs
   ends_sound w r a b xs us ys vs s ls k others opened lanes reads is os sound =
       let P : List (Inlet A) × List (Outlet A) → Type 0 = λ z. AllTied (record { core = b; inlets = z.0; outlets = z.1 }) × AllPaired (record { core = b; inlets = z.0; outlets = z.1 }) in
@@ -184,7 +184,7 @@ module _ {A : Type 0} where
       let x : (inlet_at (writer_out xs (8 * s + j)) (8 * t)).out ≡ (inlet_at xs (8 * t)).out = ap (λ (y : Inlet A). y.out) (set_there xs (8 * s + j) (record (inlet_at xs (8 * s + j)) { out = true }) no_inlet (8 * t) far) in
       record { both = x ∙ was.both; is_open = was.is_open; own = was.own }
 
-  pub further_sound : (w r : ℕ → RingId A) (e : EndState) (xs us : List (WriteLane A)) (ys : List (ReadLane A)) (s j : ℕ) → 0 < j → j < 8 → AllLanes w us → map inlet_of us ≡ writer_out (map inlet_of xs) (8 * s + j) → IsSound w r e xs ys → IsSound w r e us ys
+  pub further_sound : (w r : ℕ → RingId A) (e : EndState) (xs us : List (WriteRing A)) (ys : List (ReadRing A)) (s j : ℕ) → 0 < j → j < 8 → AllLanes w us → map inlet_of us ≡ writer_out (map inlet_of xs) (8 * s + j) → IsSound w r e xs ys → IsSound w r e us ys
   further_sound w r e xs us ys s j above below lanes is sound =
       let P : List (Inlet A) → Type 0 = λ z. AllTied (record { core = e; inlets = z; outlets = map outlet_of ys }) × AllPaired (record { core = e; inlets = z; outlets = map outlet_of ys }) in
       let here = subst P (sym is) (further_tied e (map inlet_of xs) (map outlet_of ys) (8 * s + j) sound.tied, further_paired e (map inlet_of xs) (map outlet_of ys) s j above below sound.paired) in

@@ -14,7 +14,7 @@ use Rattle.st_frames.specs.Frames.{Known, ConnectionClose, ConnectionNewAddress,
 use Rattle.st_frames.specs.Told.{shares}
 use Rattle.st_streams.specs.Slots.{Slots, slot}
 use Rattle.st_streams.proofs.SlotLemmas.{slot_cases, slot_map}
-use Rattle.st_sender.specs.Sending.{Sending, Outgoing, Flown, Data, Whole, Flight, new_outgoing, outgoing_at, with_outgoing, changed_at, changed}
+use Rattle.st_sender.specs.Sending.{Sending, Outgoing, SentFrame, Data, Whole, Flight, new_outgoing, outgoing_at, with_outgoing, changed_at, changed}
 use Rattle.st_sender.specs.Accepting.{after_write, after_clean, after_offer}
 use Rattle.st_sender.specs.Answering.{acked_data, after_whole_acked, after_acked, after_all_acked, landed, after_fulfilled, after_failed, Plain, after_told, after_all_told}
 use Rattle.st_receiver.specs.declared.reason.Reason.{Reason}
@@ -79,11 +79,11 @@ module _ (Q : ℕ → Type 0) where
   whole_acked s (ConnectionClose code message) h = h
   whole_acked s (ConnectionNewAddress address) h = h
 
-  acked : (s : Sending) (f : Flown) → AllSent Q s → AllSent Q (after_acked s f)
+  acked : (s : Sending) (f : SentFrame) → AllSent Q s → AllSent Q (after_acked s f)
   acked s (Data k o n) h = sent_changed s k (acked_data o n) h
   acked s (Whole f) h = whole_acked s f h
 
-  all_acked : (fs : List Flown) (s : Sending) → AllSent Q s → AllSent Q (after_all_acked s fs)
+  all_acked : (fs : List SentFrame) (s : Sending) → AllSent Q s → AllSent Q (after_all_acked s fs)
   all_acked [] s h = h
   all_acked (f ∷ fs) s h = all_acked fs (after_acked s f) (acked s f h)
 

@@ -10,8 +10,8 @@ use Rattle.st_queues.specs.WriteEnds.{taken, known}
 use Rattle.st_queues.specs.ReadEnds.{put_in, free_of}
 use Rattle.st_queues.specs.declared.items.Item.{Item}
 use Rattle.st_queues.specs.declared.items.Delivery.{Delivery}
-use Rattle.st_queues.specs.declared.lanes.WriteLane.{WriteLane}
-use Rattle.st_queues.specs.declared.lanes.ReadLane.{ReadLane}
+use Rattle.st_queues.specs.declared.lanes.WriteRing.{WriteRing}
+use Rattle.st_queues.specs.declared.lanes.ReadRing.{ReadRing}
 use Rattle.st_end.specs.State.{EndState}
 use Rattle.st_end.specs.Calls.{has_stream}
 use Rattle.st_hub.specs.declared.pumping.Pumped.{Pumped}
@@ -80,28 +80,28 @@ module _ {A : Type 0} where
 
   -- ---- at which index the ring lies
 
-  pub here_known : (xs : List (WriteLane A)) (r : ℕ) (x : WriteLane A) → slice_get xs r ≡ Some x → stands_at xs r ≡ known x.end
+  pub here_known : (xs : List (WriteRing A)) (r : ℕ) (x : WriteRing A) → slice_get xs r ≡ Some x → stands_at xs r ≡ known x.end
   here_known xs r x at = at_map known_of xs r x [] at
 
-  pub here_taken : (xs : List (WriteLane A)) (r : ℕ) (x : WriteLane A) → slice_get xs r ≡ Some x → taken_at xs r ≡ taken x.end
+  pub here_taken : (xs : List (WriteRing A)) (r : ℕ) (x : WriteRing A) → slice_get xs r ≡ Some x → taken_at xs r ≡ taken x.end
   here_taken xs r x at = ap (λ (z : Inlet A). z.taken) (at_map inlet_of xs r x no_inlet at)
 
-  pub new_known : (xs : List (WriteLane A)) (r : ℕ) (y : WriteLane A) → r < length (map known_of xs) → stands_at (slice_set xs r y) r ≡ known y.end
+  pub new_known : (xs : List (WriteRing A)) (r : ℕ) (y : WriteRing A) → r < length (map known_of xs) → stands_at (slice_set xs r y) r ≡ known y.end
   new_known xs r y room = ap (λ l. known_at l r) (map-set known_of xs r y) ∙ set_here (map known_of xs) r (known_of y) [] room
 
-  pub new_taken : (xs : List (WriteLane A)) (r : ℕ) (y : WriteLane A) → r < length (map inlet_of xs) → taken_at (slice_set xs r y) r ≡ taken y.end
+  pub new_taken : (xs : List (WriteRing A)) (r : ℕ) (y : WriteRing A) → r < length (map inlet_of xs) → taken_at (slice_set xs r y) r ≡ taken y.end
   new_taken xs r y room = ap (λ l. (inlet_at l r).taken) (map-set inlet_of xs r y) ∙ ap (λ (z : Inlet A). z.taken) (set_here (map inlet_of xs) r (inlet_of y) no_inlet room)
 
-  pub other_known : (xs : List (WriteLane A)) (r i : ℕ) (y : WriteLane A) → i ≢ r → stands_at (slice_set xs r y) i ≡ stands_at xs i
+  pub other_known : (xs : List (WriteRing A)) (r i : ℕ) (y : WriteRing A) → i ≢ r → stands_at (slice_set xs r y) i ≡ stands_at xs i
   other_known xs r i y ne = ap (λ l. known_at l i) (map-set known_of xs r y) ∙ set_there (map known_of xs) r (known_of y) [] i ne
 
-  other_taken : (xs : List (WriteLane A)) (r i : ℕ) (y : WriteLane A) → i ≢ r → taken_at (slice_set xs r y) i ≡ taken_at xs i
+  other_taken : (xs : List (WriteRing A)) (r i : ℕ) (y : WriteRing A) → i ≢ r → taken_at (slice_set xs r y) i ≡ taken_at xs i
   other_taken xs r i y ne = ap (λ l. (inlet_at l i).taken) (map-set inlet_of xs r y) ∙ ap (λ (z : Inlet A). z.taken) (set_there (map inlet_of xs) r (inlet_of y) no_inlet i ne)
 
   longer_as : (ts ks us ls ts' ks' us' ls' : List (Item A)) → ts' ≡ ts → ks' ≡ ks → us' ≡ us → ls' ≡ ls → Longer ts ks us ls → Longer ts' ks' us' ls'
   longer_as ts ks us ls ts' ks' us' ls' a b c d h = subst (λ (q : (List (Item A) × List (Item A)) × (List (Item A) × List (Item A))). Longer q.0.0 q.0.1 q.1.0 q.1.1) (λ i. ((sym a i, sym b i), (sym c i, sym d i))) h
 
-  pub grow_set : (xs : List (WriteLane A)) (r : ℕ) (x y : WriteLane A) → r < length (map known_of xs) → r < length (map inlet_of xs) → slice_get xs r ≡ Some x → Longer (taken x.end) (known x.end) (taken y.end) (known y.end) → Grow xs (slice_set xs r y)
+  pub grow_set : (xs : List (WriteRing A)) (r : ℕ) (x y : WriteRing A) → r < length (map known_of xs) → r < length (map inlet_of xs) → slice_get xs r ≡ Some x → Longer (taken x.end) (known x.end) (taken y.end) (known y.end) → Grow xs (slice_set xs r y)
   grow_set xs r x y room room' at h i =
       elim (cases_eq i r) [
         | inl same ↦ subst (λ k. Longer (taken_at xs k) (stands_at xs k) (taken_at (slice_set xs r y) k) (stands_at (slice_set xs r y) k)) (sym same)
@@ -109,38 +109,38 @@ module _ {A : Type 0} where
         | inr ne ↦ longer_as _ _ _ _ _ _ _ _ refl refl (other_taken xs r i y ne) (other_known xs r i y ne) (longer_none (taken_at xs i) (stands_at xs i))
       ]
 
-  pub grow_none : (xs : List (WriteLane A)) → Grow xs xs
+  pub grow_none : (xs : List (WriteRing A)) → Grow xs xs
   grow_none xs r = longer_none (taken_at xs r) (stands_at xs r)
 
-  pub grow_join : (xs ys zs : List (WriteLane A)) → Grow xs ys → Grow ys zs → Grow xs zs
+  pub grow_join : (xs ys zs : List (WriteRing A)) → Grow xs ys → Grow ys zs → Grow xs zs
   grow_join xs ys zs f g r = longer_join _ _ _ _ _ _ (f r) (g r)
 
-  pub stops_here : (k : ℕ) (p : Pumped) (e : EndState) (xs : List (WriteLane A)) (r : ℕ) (x y : WriteLane A) → r < length (map known_of xs) → r < length (map inlet_of xs) → slice_get xs r ≡ Some x
+  pub stops_here : (k : ℕ) (p : Pumped) (e : EndState) (xs : List (WriteRing A)) (r : ℕ) (x y : WriteRing A) → r < length (map known_of xs) → r < length (map inlet_of xs) → slice_get xs r ≡ Some x
       → Stops k p (taken x.end) e (taken y.end) (known y.end) → Stops k p (taken_at xs r) e (taken_at (slice_set xs r y) r) (stands_at (slice_set xs r y) r)
   stops_here k p e xs r x y room room' at h = subst (λ (q : List (Item A) × List (Item A) × List (Item A)). Stops k p q.0 e q.1 q.2) (λ i. (sym (here_taken xs r x at) i, sym (new_taken xs r y room') i, sym (new_known xs r y room) i)) h
 
-  here_free : (ys : List (ReadLane A)) (s : ℕ) (x : ReadLane A) → slice_get ys s ≡ Some x → free_at ys s ≡ free_of x.end
+  here_free : (ys : List (ReadRing A)) (s : ℕ) (x : ReadRing A) → slice_get ys s ≡ Some x → free_at ys s ≡ free_of x.end
   here_free ys s x at = at_map room_of ys s x 0 at
 
-  here_put : (ys : List (ReadLane A)) (s : ℕ) (x : ReadLane A) → slice_get ys s ≡ Some x → put_at ys s ≡ put_in x.end
+  here_put : (ys : List (ReadRing A)) (s : ℕ) (x : ReadRing A) → slice_get ys s ≡ Some x → put_at ys s ≡ put_in x.end
   here_put ys s x at = ap (λ (z : Outlet A). z.put) (at_map outlet_of ys s x no_outlet at)
 
-  new_free : (ys : List (ReadLane A)) (s : ℕ) (y : ReadLane A) → s < length (map room_of ys) → free_at (slice_set ys s y) s ≡ free_of y.end
+  new_free : (ys : List (ReadRing A)) (s : ℕ) (y : ReadRing A) → s < length (map room_of ys) → free_at (slice_set ys s y) s ≡ free_of y.end
   new_free ys s y room = ap (λ l. room_at l s) (map-set room_of ys s y) ∙ set_here (map room_of ys) s (room_of y) 0 room
 
-  new_put : (ys : List (ReadLane A)) (s : ℕ) (y : ReadLane A) → s < length (map outlet_of ys) → put_at (slice_set ys s y) s ≡ put_in y.end
+  new_put : (ys : List (ReadRing A)) (s : ℕ) (y : ReadRing A) → s < length (map outlet_of ys) → put_at (slice_set ys s y) s ≡ put_in y.end
   new_put ys s y room = ap (λ l. (outlet_at l s).put) (map-set outlet_of ys s y) ∙ ap (λ (z : Outlet A). z.put) (set_here (map outlet_of ys) s (outlet_of y) no_outlet room)
 
-  other_free : (ys : List (ReadLane A)) (s i : ℕ) (y : ReadLane A) → i ≢ s → free_at (slice_set ys s y) i ≡ free_at ys i
+  other_free : (ys : List (ReadRing A)) (s i : ℕ) (y : ReadRing A) → i ≢ s → free_at (slice_set ys s y) i ≡ free_at ys i
   other_free ys s i y ne = ap (λ l. room_at l i) (map-set room_of ys s y) ∙ set_there (map room_of ys) s (room_of y) 0 i ne
 
-  other_put : (ys : List (ReadLane A)) (s i : ℕ) (y : ReadLane A) → i ≢ s → put_at (slice_set ys s y) i ≡ put_at ys i
+  other_put : (ys : List (ReadRing A)) (s i : ℕ) (y : ReadRing A) → i ≢ s → put_at (slice_set ys s y) i ≡ put_at ys i
   other_put ys s i y ne = ap (λ l. (outlet_at l i).put) (map-set outlet_of ys s y) ∙ ap (λ (z : Outlet A). z.put) (set_there (map outlet_of ys) s (outlet_of y) no_outlet i ne)
 
   fuller_as : (ds us ds' us' : List (Delivery A)) (n m n' m' : ℕ) → ds' ≡ ds → n' ≡ n → us' ≡ us → m' ≡ m → Fuller ds n us m → Fuller ds' n' us' m'
   fuller_as ds us ds' us' n m n' m' a b c d h = subst (λ (q : (List (Delivery A) × ℕ) × (List (Delivery A) × ℕ)). Fuller q.0.0 q.0.1 q.1.0 q.1.1) (λ i. ((sym a i, sym b i), (sym c i, sym d i))) h
 
-  pub fill_set : (ys : List (ReadLane A)) (s : ℕ) (x y : ReadLane A) → s < length (map room_of ys) → s < length (map outlet_of ys) → slice_get ys s ≡ Some x → Fuller (put_in x.end) (free_of x.end) (put_in y.end) (free_of y.end) → Fill ys (slice_set ys s y)
+  pub fill_set : (ys : List (ReadRing A)) (s : ℕ) (x y : ReadRing A) → s < length (map room_of ys) → s < length (map outlet_of ys) → slice_get ys s ≡ Some x → Fuller (put_in x.end) (free_of x.end) (put_in y.end) (free_of y.end) → Fill ys (slice_set ys s y)
   fill_set ys s x y room room' at h i =
       elim (cases_eq i s) [
         | inl same ↦ subst (λ k. Fuller (put_at ys k) (free_at ys k) (put_at (slice_set ys s y) k) (free_at (slice_set ys s y) k)) (sym same)
@@ -148,13 +148,13 @@ module _ {A : Type 0} where
         | inr ne ↦ fuller_as _ _ _ _ _ _ _ _ refl refl (other_put ys s i y ne) (other_free ys s i y ne) (fuller_none (put_at ys i) (free_at ys i))
       ]
 
-  pub fill_none : (ys : List (ReadLane A)) → Fill ys ys
+  pub fill_none : (ys : List (ReadRing A)) → Fill ys ys
   fill_none ys s = fuller_none (put_at ys s) (free_at ys s)
 
-  pub fill_join : (xs ys zs : List (ReadLane A)) → Fill xs ys → Fill ys zs → Fill xs zs
+  pub fill_join : (xs ys zs : List (ReadRing A)) → Fill xs ys → Fill ys zs → Fill xs zs
   fill_join xs ys zs f g s = fuller_join _ _ _ _ _ _ (f s) (g s)
 
-  pub stops_giving_here : (k : ℕ) (a : EndState) (p : Pumped) (b : EndState) (ys : List (ReadLane A)) (s : ℕ) (x y : ReadLane A) → s < length (map room_of ys) → s < length (map outlet_of ys) → slice_get ys s ≡ Some x
+  pub stops_giving_here : (k : ℕ) (a : EndState) (p : Pumped) (b : EndState) (ys : List (ReadRing A)) (s : ℕ) (x y : ReadRing A) → s < length (map room_of ys) → s < length (map outlet_of ys) → slice_get ys s ≡ Some x
       → StopsGiving k a (put_in x.end) p b (put_in y.end) (free_of y.end) → StopsGiving k a (put_at ys s) p b (put_at (slice_set ys s y) s) (free_at (slice_set ys s y) s)
   stops_giving_here k a p b ys s x y room room' at h = subst (λ (q : List (Delivery A) × List (Delivery A) × ℕ). StopsGiving k a q.0 p b q.1 q.2) (λ i. (sym (here_put ys s x at) i, sym (new_put ys s y room') i, sym (new_free ys s y room) i)) h
 

@@ -10,7 +10,7 @@ use Rattle.st_keys.specs.declared.error.KeyError.{KeyError}
 use Rattle.st_keys.specs.Sealed.{opened}
 use Rattle.st_frames.specs.Frames.{Known, ConnectionClose, ConnectionNewAddress, ConnectionMaxData, ConnectionDataBlocked, StreamClose, StreamMoney, StreamMaxMoney, StreamMoneyBlocked, StreamData, StreamMaxData, StreamDataBlocked, Packet, frames_of}
 use Rattle.st_streams.proofs.SlotLemmas.{slot_cases}
-use Rattle.st_sender.specs.Sending.{Sending, Outgoing, Flown, Data, Whole, Flight, Marks, new_outgoing, outgoing_at, with_outgoing, changed_at, changed}
+use Rattle.st_sender.specs.Sending.{Sending, Outgoing, SentFrame, Data, Whole, Flight, Marks, new_outgoing, outgoing_at, with_outgoing, changed_at, changed}
 use Rattle.st_sender.specs.Answering.{acked_data, acked_close, after_whole_acked, after_acked, after_all_acked, landed, after_fulfilled, after_failed, Plain, after_told, after_all_told}
 use Rattle.st_receiver.specs.Streams.{Receiving}
 use Rattle.st_end.specs.State.{EndState}
@@ -74,11 +74,11 @@ whole_acked s (ConnectionNewAddress address) = sent_same s
 retained : {X : Type 0} (m : fmap.FinMap nat_cmp X) (p : ℕ → Bool) (q : ℕ) (y : X) → fmap.get (fmap.retain_keys m p) q ≡ Some y → fmap.get m q ≡ Some y
 retained m p q y e = grind (arith, common_steps, fmap.gets, fmap.get-retain_keys)
 
-acked : (s : Sending) (f : Flown) → KeepsSent s (after_acked s f)
+acked : (s : Sending) (f : SentFrame) → KeepsSent s (after_acked s f)
 acked s (Data k o n) = sent_changed s k (acked_data o n) (λ x. record { accepted = refl; kept = λ q b e. retained x.unacked _ q b e; is_open = λ e. refl })
 acked s (Whole f) = whole_acked s f
 
-all_acked : (fs : List Flown) (s : Sending) → KeepsSent s (after_all_acked s fs)
+all_acked : (fs : List SentFrame) (s : Sending) → KeepsSent s (after_all_acked s fs)
 all_acked [] s = sent_same s
 all_acked (f ∷ fs) s = sent_join s (after_acked s f) (after_all_acked (after_acked s f) fs) (acked s f) (all_acked fs (after_acked s f))
 

@@ -5,8 +5,8 @@ use Rattle.st_sender.specs.Sending.{Outgoing, outgoing_at}
 use Rattle.st_receiver.specs.Streams.{delivered_of}
 use Rattle.st_queues.specs.Items.{joined, delivered}
 use Rattle.st_queues.specs.Names.{RingId}
-use Rattle.st_queues.specs.declared.lanes.WriteLane.{WriteLane}
-use Rattle.st_queues.specs.declared.lanes.ReadLane.{ReadLane}
+use Rattle.st_queues.specs.declared.lanes.WriteRing.{WriteRing}
+use Rattle.st_queues.specs.declared.lanes.ReadRing.{ReadRing}
 use Rattle.st_end.specs.State.{EndState}
 use Rattle.st_hub.specs.Merge.{Took, item}
 use Rattle.st_hub.specs.Flow.{Flow, Inlet, Outlet, outlet_at, rings_of, IsSent, TiedBy, AllTied}
@@ -51,7 +51,7 @@ module _ {A : Type 0} where
       }
 
   -- the end changed, and nothing was written or read
-  pub core_sound : (w r : ℕ → RingId A) (n : ℕ) (a b : EndState) (xs : List (WriteLane A)) (ys : List (ReadLane A)) → Keeps n a b → OpensNoOwn a b → IsSound w r a xs ys → IsSound w r b xs ys
+  pub core_sound : (w r : ℕ → RingId A) (n : ℕ) (a b : EndState) (xs : List (WriteRing A)) (ys : List (ReadRing A)) → Keeps n a b → OpensNoOwn a b → IsSound w r a xs ys → IsSound w r b xs ys
   core_sound w r n a b xs ys h o s = record {
     lanes = s.lanes;
     read_lanes = s.read_lanes;
@@ -62,7 +62,7 @@ module _ {A : Type 0} where
   }
 
   -- lanes that look the same
-  pub lanes_sound : (w r : ℕ → RingId A) (e : EndState) (xs us : List (WriteLane A)) (ys vs : List (ReadLane A)) → AllLanes w us → AllReadLanes r vs → map inlet_of us ≡ map inlet_of xs → map outlet_of vs ≡ map outlet_of ys
+  pub lanes_sound : (w r : ℕ → RingId A) (e : EndState) (xs us : List (WriteRing A)) (ys vs : List (ReadRing A)) → AllLanes w us → AllReadLanes r vs → map inlet_of us ≡ map inlet_of xs → map outlet_of vs ≡ map outlet_of ys
       → IsSound w r e xs ys → IsSound w r e us vs
   lanes_sound w r e xs us ys vs lanes reads is os s =
       let P : List (Inlet A) × List (Outlet A) → Type 0 = λ z. AllTied (record { core = e; inlets = z.0; outlets = z.1 }) × AllPaired (record { core = e; inlets = z.0; outlets = z.1 }) in

@@ -13,8 +13,8 @@ use Rattle.st_queues.specs.declared.items.Item.{Item}
 use Rattle.st_queues.specs.declared.items.Item.TheVariants as item
 use Rattle.st_queues.specs.declared.items.Delivery.{Delivery}
 use Rattle.st_queues.specs.declared.items.Delivery.TheVariants as delivery
-use Rattle.st_queues.specs.declared.lanes.WriteLane.{WriteLane}
-use Rattle.st_queues.specs.declared.lanes.ReadLane.{ReadLane}
+use Rattle.st_queues.specs.declared.lanes.WriteRing.{WriteRing}
+use Rattle.st_queues.specs.declared.lanes.ReadRing.{ReadRing}
 use Rattle.st_end.specs.State.{EndState}
 use Rattle.st_end.specs.Calls.{write, close}
 use Rattle.st_hub.specs.declared.pumping.Pumped.{Pumped}
@@ -80,7 +80,7 @@ put_back (z ∷ zs) (suc i) d = ap (λ l. z ∷ l) (put_back zs i d)
 
 module _ {A : Type 0} where
   -- a lane whose ring is the same is still the hub's
-  pub lane_kept : (ring : ℕ → RingId A) (k : ℕ) (x y : WriteLane A) → IsLane ring k x → SameWriteEnd x.end y.end → y.held ≡ x.held → y.over ≡ has_end (taken y.end) → IsLane ring k y
+  pub lane_kept : (ring : ℕ → RingId A) (k : ℕ) (x y : WriteRing A) → IsLane ring k x → SameWriteEnd x.end y.end → y.held ≡ x.held → y.over ≡ has_end (taken y.end) → IsLane ring k y
   lane_kept ring k x y l same held over =
       let n : y.end.ring ≡ x.end.ring = same.1 in
       record {
@@ -93,7 +93,7 @@ module _ {A : Type 0} where
         over = over;
       }
 
-  pub read_lane_kept : (ring : ℕ → RingId A) (k : ℕ) (x y : ReadLane A) → IsReadLane ring k x → SameReadEnd x.end y.end → y.held ≡ x.held → y.over ≡ has_last (put_in y.end) → IsReadLane ring k y
+  pub read_lane_kept : (ring : ℕ → RingId A) (k : ℕ) (x y : ReadRing A) → IsReadLane ring k x → SameReadEnd x.end y.end → y.held ≡ x.held → y.over ≡ has_last (put_in y.end) → IsReadLane ring k y
   read_lane_kept ring k x y l same held over =
       let n : y.end.stream ≡ x.end.stream = same.1 in
       record {
@@ -108,28 +108,28 @@ module _ {A : Type 0} where
 
   -- ---- the lists after a try
 
-  taken_more : (xs : List (WriteLane A)) (r : ℕ) (x y : WriteLane A) (i : Item A) → slice_get xs r ≡ Some x → y.held ≡ x.held → taken y.end ≡ taken x.end ++ i ∷ [] → map inlet_of (slice_set xs r y) ≡ with_item (map inlet_of xs) r i
+  taken_more : (xs : List (WriteRing A)) (r : ℕ) (x y : WriteRing A) (i : Item A) → slice_get xs r ≡ Some x → y.held ≡ x.held → taken y.end ≡ taken x.end ++ i ∷ [] → map inlet_of (slice_set xs r y) ≡ with_item (map inlet_of xs) r i
   taken_more xs r x y i at held new =
       let was : inlet_at (map inlet_of xs) r ≡ inlet_of x = at_map inlet_of xs r x no_inlet at in
       let t : taken y.end ≡ (inlet_at (map inlet_of xs) r).taken ++ i ∷ [] = new ∙ ap (λ (z : Inlet A). z.taken ++ i ∷ []) (sym was) in
       let o : not (is_some y.held) ≡ (inlet_at (map inlet_of xs) r).out = ap (λ z. not (is_some z)) held ∙ ap (λ (z : Inlet A). z.out) (sym was) in
       map-set inlet_of xs r y ∙ ap (λ z. slice_set (map inlet_of xs) r z) (λ k. record { taken = t k; out = o k })
 
-  pub taken_same : (xs : List (WriteLane A)) (r : ℕ) (x y : WriteLane A) → slice_get xs r ≡ Some x → y.held ≡ x.held → taken y.end ≡ taken x.end → map inlet_of (slice_set xs r y) ≡ map inlet_of xs
+  pub taken_same : (xs : List (WriteRing A)) (r : ℕ) (x y : WriteRing A) → slice_get xs r ≡ Some x → y.held ≡ x.held → taken y.end ≡ taken x.end → map inlet_of (slice_set xs r y) ≡ map inlet_of xs
   taken_same xs r x y at held new =
       let was : inlet_at (map inlet_of xs) r ≡ inlet_of x = at_map inlet_of xs r x no_inlet at in
       let o : not (is_some y.held) ≡ not (is_some x.held) = ap (λ z. not (is_some z)) held in
       let same : inlet_of y ≡ inlet_of x = λ k. record { taken = new k; out = o k } in
       map-set inlet_of xs r y ∙ ap (λ z. slice_set (map inlet_of xs) r z) (same ∙ sym was) ∙ put_back (map inlet_of xs) r no_inlet
 
-  put_more : (xs : List (ReadLane A)) (s : ℕ) (x y : ReadLane A) (d : Delivery A) → slice_get xs s ≡ Some x → y.held ≡ x.held → put_in y.end ≡ put_in x.end ++ d ∷ [] → map outlet_of (slice_set xs s y) ≡ with_delivery (map outlet_of xs) s d
+  put_more : (xs : List (ReadRing A)) (s : ℕ) (x y : ReadRing A) (d : Delivery A) → slice_get xs s ≡ Some x → y.held ≡ x.held → put_in y.end ≡ put_in x.end ++ d ∷ [] → map outlet_of (slice_set xs s y) ≡ with_delivery (map outlet_of xs) s d
   put_more xs s x y d at held new =
       let was : outlet_at (map outlet_of xs) s ≡ outlet_of x = at_map outlet_of xs s x no_outlet at in
       let t : put_in y.end ≡ (outlet_at (map outlet_of xs) s).put ++ d ∷ [] = new ∙ ap (λ (z : Outlet A). z.put ++ d ∷ []) (sym was) in
       let o : not (is_some y.held) ≡ (outlet_at (map outlet_of xs) s).out = ap (λ z. not (is_some z)) held ∙ ap (λ (z : Outlet A). z.out) (sym was) in
       map-set outlet_of xs s y ∙ ap (λ z. slice_set (map outlet_of xs) s z) (λ k. record { put = t k; out = o k })
 
-  pub put_same : (xs : List (ReadLane A)) (s : ℕ) (x y : ReadLane A) → slice_get xs s ≡ Some x → y.held ≡ x.held → put_in y.end ≡ put_in x.end → map outlet_of (slice_set xs s y) ≡ map outlet_of xs
+  pub put_same : (xs : List (ReadRing A)) (s : ℕ) (x y : ReadRing A) → slice_get xs s ≡ Some x → y.held ≡ x.held → put_in y.end ≡ put_in x.end → map outlet_of (slice_set xs s y) ≡ map outlet_of xs
   put_same xs s x y at held new =
       let was : outlet_at (map outlet_of xs) s ≡ outlet_of x = at_map outlet_of xs s x no_outlet at in
       let o : not (is_some y.held) ≡ not (is_some x.held) = ap (λ z. not (is_some z)) held in
@@ -171,7 +171,7 @@ module _ {A : Type 0} where
   still : (a b : EndState) (xs us : List (Inlet A)) (ys vs : List (Outlet A)) → b ≡ a → us ≡ xs → vs ≡ ys → Flows (flow a xs ys) (flow b us vs)
   still a b xs us ys vs e x y = subst (Flows (flow a xs ys)) (λ i. flow (sym e i) (sym x i) (sym y i)) (flows_none (flow a xs ys))
 
-  pub took : (p : Pumped) (last : Bool) (s j : ℕ) (a b : EndState) (xs : List (WriteLane A)) (x y : WriteLane A) (ys : List (Outlet A)) → s < 64 → j < 8 → length xs ≡ 512 → length (map inlet_of xs) ≡ 512 → slice_get xs (8 * s + j) ≡ Some x → y.held ≡ x.held
+  pub took : (p : Pumped) (last : Bool) (s j : ℕ) (a b : EndState) (xs : List (WriteRing A)) (x y : WriteRing A) (ys : List (Outlet A)) → s < 64 → j < 8 → length xs ≡ 512 → length (map inlet_of xs) ≡ 512 → slice_get xs (8 * s + j) ≡ Some x → y.held ≡ x.held
       → MatchBool last (NoOther (map inlet_of xs) s j) (SomeOther (map inlet_of xs) s j) → AfterTake (s + 1) last a (taken x.end) p b (taken y.end)
       → Flows (flow a (map inlet_of xs) ys) (flow b (map inlet_of (slice_set xs (8 * s + j) y)) ys)
   took Moved last s j a b xs x y ys ls lj wide wide_too at held others h =
@@ -189,7 +189,7 @@ module _ {A : Type 0} where
   took Stuck last s j a b xs x y ys ls lj wide wide_too at held others h = still a b _ _ ys ys h.0 (taken_same xs (8 * s + j) x y at held h.1) refl
   took NoMemory last s j a b xs x y ys ls lj wide wide_too at held others h = still a b _ _ ys ys h.0 (taken_same xs (8 * s + j) x y at held h.1) refl
 
-  pub gave : (p : Pumped) (s : ℕ) (a b : EndState) (xs : List (Inlet A)) (ys : List (ReadLane A)) (x y : ReadLane A) → s < 64 → slice_get ys s ≡ Some x → y.held ≡ x.held → AfterGive (s + 1) a (put_in x.end) p b (put_in y.end)
+  pub gave : (p : Pumped) (s : ℕ) (a b : EndState) (xs : List (Inlet A)) (ys : List (ReadRing A)) (x y : ReadRing A) → s < 64 → slice_get ys s ≡ Some x → y.held ≡ x.held → AfterGive (s + 1) a (put_in x.end) p b (put_in y.end)
       → Flows (flow a xs (map outlet_of ys)) (flow b xs (map outlet_of (slice_set ys s y)))
   gave Moved s a b xs ys x y ls at held h =
       let f = flow a xs (map outlet_of ys) in

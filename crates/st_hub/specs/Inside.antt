@@ -6,72 +6,72 @@ use Rattle.st_queues.specs.ReadEnds.{put_in, free_of}
 use Rattle.st_queues.specs.Lanes.{IsOurs, IsOurRead}
 use Rattle.st_queues.specs.declared.items.Item.{Item}
 use Rattle.st_queues.specs.declared.items.Delivery.{Delivery}
-use Rattle.st_queues.specs.declared.lanes.WriteLane.{WriteLane}
-use Rattle.st_queues.specs.declared.lanes.ReadLane.{ReadLane}
+use Rattle.st_queues.specs.declared.lanes.WriteRing.{WriteRing}
+use Rattle.st_queues.specs.declared.lanes.ReadRing.{ReadRing}
 use Rattle.st_end.specs.State.{EndState}
 use Rattle.st_hub.specs.Flow.{Flow, Inlet, Outlet, inlet_at, outlet_at, has_end, has_last, AllTied}
 use Rattle.st_hub.specs.Handing.{AllPaired}
 use Rattle.st_hub.specs.Trying.{Beside, known_at, room_at, Longer, Fuller}
 
 module _ {A : Type 0} where
-  abbrev pub inlet_of : WriteLane A → Inlet A
+  abbrev pub inlet_of : WriteRing A → Inlet A
   inlet_of x = record { taken = taken x.end; out = not (is_some x.held) }
 
-  abbrev pub outlet_of : ReadLane A → Outlet A
+  abbrev pub outlet_of : ReadRing A → Outlet A
   outlet_of x = record { put = put_in x.end; out = not (is_some x.held) }
 
-  abbrev pub flow_of : EndState → List (WriteLane A) → List (ReadLane A) → Flow A
+  abbrev pub flow_of : EndState → List (WriteRing A) → List (ReadRing A) → Flow A
   flow_of core writes reads = record { core = core; inlets = map inlet_of writes; outlets = map outlet_of reads }
 
-  abbrev pub known_of : WriteLane A → List (Item A)
+  abbrev pub known_of : WriteRing A → List (Item A)
   known_of x = known x.end
 
-  abbrev pub room_of : ReadLane A → ℕ
+  abbrev pub room_of : ReadRing A → ℕ
   room_of x = free_of x.end
 
-  abbrev pub beside_of : EndState → List (WriteLane A) → List (ReadLane A) → Beside A
+  abbrev pub beside_of : EndState → List (WriteRing A) → List (ReadRing A) → Beside A
   beside_of core writes reads = record { flow = flow_of core writes reads; known = map known_of writes; room = map room_of reads }
 
   -- what was removed from a ring, and what is known to be in it
-  abbrev pub taken_at : List (WriteLane A) → (ring : ℕ) → List (Item A)
+  abbrev pub taken_at : List (WriteRing A) → (ring : ℕ) → List (Item A)
   taken_at xs r = (inlet_at (map inlet_of xs) r).taken
 
-  abbrev pub stands_at : List (WriteLane A) → (ring : ℕ) → List (Item A)
+  abbrev pub stands_at : List (WriteRing A) → (ring : ℕ) → List (Item A)
   stands_at xs r = known_at (map known_of xs) r
 
   -- what was put into a ring, and the room that is known there
-  abbrev pub put_at : List (ReadLane A) → (place : ℕ) → List (Delivery A)
+  abbrev pub put_at : List (ReadRing A) → (place : ℕ) → List (Delivery A)
   put_at ys s = (outlet_at (map outlet_of ys) s).put
 
-  abbrev pub free_at : List (ReadLane A) → (place : ℕ) → ℕ
+  abbrev pub free_at : List (ReadRing A) → (place : ℕ) → ℕ
   free_at ys s = room_at (map room_of ys) s
 
   -- each ring's own only grow
-  abbrev pub Grow : List (WriteLane A) → List (WriteLane A) → Type 0
+  abbrev pub Grow : List (WriteRing A) → List (WriteRing A) → Type 0
   Grow xs ys = (r : ℕ) → Longer (taken_at xs r) (stands_at xs r) (taken_at ys r) (stands_at ys r)
 
-  abbrev pub Fill : List (ReadLane A) → List (ReadLane A) → Type 0
+  abbrev pub Fill : List (ReadRing A) → List (ReadRing A) → Type 0
   Fill xs ys = (s : ℕ) → Fuller (put_at xs s) (free_at xs s) (put_at ys s) (free_at ys s)
 
   -- the hub's ring of the number k lies at k, and its lane knows whether its end was removed from it, or its last was put there
-  pub record IsLane (ring : ℕ → RingId A) (k : ℕ) (x : WriteLane A) : Type 0 where
+  pub record IsLane (ring : ℕ → RingId A) (k : ℕ) (x : WriteRing A) : Type 0 where
     pub number : x.end.ring ≡ k
     pub ours : IsOurs ring x
     pub over : x.over ≡ has_end (taken x.end)
 
-  pub record IsReadLane (ring : ℕ → RingId A) (k : ℕ) (x : ReadLane A) : Type 0 where
+  pub record IsReadLane (ring : ℕ → RingId A) (k : ℕ) (x : ReadRing A) : Type 0 where
     pub number : x.end.stream ≡ k
     pub ours : IsOurRead ring x
     pub over : x.over ≡ has_last (put_in x.end)
 
-  abbrev pub AllLanes : (ℕ → RingId A) → List (WriteLane A) → Type 0
-  AllLanes ring xs = (length xs ≡ 512) × ((k : ℕ) (x : WriteLane A) → slice_get xs k ≡ Some x → IsLane ring k x)
+  abbrev pub AllLanes : (ℕ → RingId A) → List (WriteRing A) → Type 0
+  AllLanes ring xs = (length xs ≡ 512) × ((k : ℕ) (x : WriteRing A) → slice_get xs k ≡ Some x → IsLane ring k x)
 
-  abbrev pub AllReadLanes : (ℕ → RingId A) → List (ReadLane A) → Type 0
-  AllReadLanes ring xs = (length xs ≡ 64) × ((k : ℕ) (x : ReadLane A) → slice_get xs k ≡ Some x → IsReadLane ring k x)
+  abbrev pub AllReadLanes : (ℕ → RingId A) → List (ReadRing A) → Type 0
+  AllReadLanes ring xs = (length xs ≡ 64) × ((k : ℕ) (x : ReadRing A) → slice_get xs k ≡ Some x → IsReadLane ring k x)
 
 -- the hub's end and rings fit: the rings are the hub's, and what passed through them is the end's
-pub record IsSound {A : Type 0} (write_ring read_ring : ℕ → RingId A) (core : EndState) (writes : List (WriteLane A)) (reads : List (ReadLane A)) : Type 0 where
+pub record IsSound {A : Type 0} (write_ring read_ring : ℕ → RingId A) (core : EndState) (writes : List (WriteRing A)) (reads : List (ReadRing A)) : Type 0 where
   pub lanes : AllLanes write_ring writes
   pub read_lanes : AllReadLanes read_ring reads
   pub tied : AllTied (flow_of core writes reads)

@@ -8,7 +8,7 @@ ghost use Rattle.st_hub.specs.Inside.{inlet_of, AllLanes};
 use crate::lanes;
 use crate::pumping::is_last;
 use st_end::EndState;
-use st_queues::{HubName, StreamWriter, WRITERS, WriteLane};
+use st_queues::{HubName, StreamWriter, WRITERS, WriteRing};
 use std::alloc::Allocator;
 
 /// Whether a stream of this number is open.
@@ -26,7 +26,7 @@ pub(crate) fn is_stream<A: Allocator + Copy>(core: &EndState<A>, stream: u8) -> 
 
 // Whether a writer's end is still here.
 fn is_unused<A: Allocator + Copy>(
-    writes: &Vec<WriteLane<A>, A>,
+    writes: &Vec<WriteRing<A>, A>,
     place: usize,
     writer: usize,
 ) -> bool
@@ -38,7 +38,7 @@ fn is_unused<A: Allocator + Copy>(
 
 /// The first of a stream's further writers that is still here.
 pub(crate) fn first_unused<A: Allocator + Copy>(
-    writes: &Vec<WriteLane<A>, A>,
+    writes: &Vec<WriteRing<A>, A>,
     place: usize,
 ) -> Option<usize>
     requires { (length writes.now.items ≡ 512) × (place < 64) }
@@ -54,7 +54,7 @@ pub(crate) fn first_unused<A: Allocator + Copy>(
 }
 
 // Whether a writer of the stream was handed out.
-fn is_written<A: Allocator + Copy>(writes: &Vec<WriteLane<A>, A>, place: usize) -> bool
+fn is_written<A: Allocator + Copy>(writes: &Vec<WriteRing<A>, A>, place: usize) -> bool
     requires { (length writes.now.items ≡ 512) × (place < 64) }
     ensures { MatchBool result (SomeOut (map inlet_of writes.now.items) place) (NoneOut (map inlet_of writes.now.items) place) }
 {
@@ -68,7 +68,7 @@ fn is_written<A: Allocator + Copy>(writes: &Vec<WriteLane<A>, A>, place: usize) 
 
 /// Whether a writer of the stream was handed out, and each that was has ended.
 pub(crate) fn is_too_late<N: HubName<A>, A: Allocator + Copy>(
-    writes: &Vec<WriteLane<A>, A>,
+    writes: &Vec<WriteRing<A>, A>,
     place: usize,
 ) -> bool
     requires { AllLanes N.write_ring writes.now.items × (place < 64) }
@@ -83,7 +83,7 @@ pub(crate) fn is_too_late<N: HubName<A>, A: Allocator + Copy>(
 /// Hands out a writer that is still here.
 pub(crate) fn further_writer<N: HubName<A>, A: Allocator + Copy>(
     alloc: A,
-    writes: &mut Vec<WriteLane<A>, A>,
+    writes: &mut Vec<WriteRing<A>, A>,
     ring: usize,
 ) -> StreamWriter<N, A>
     requires lanes { AllLanes N.write_ring writes.old.items × (ring < 512) }

@@ -7,13 +7,13 @@ ghost use Rattle.st_hub.specs.Handing.{IsFreshWriter, IsFreshReader};
 ghost use Rattle.st_hub.specs.Inside.{inlet_of, outlet_of, stands_at, AllLanes, AllReadLanes};
 
 use st_end::EndState;
-use st_queues::{HubName, ReadLane, StreamReader, StreamWriter, WriteLane};
+use st_queues::{HubName, ReadRing, StreamReader, StreamWriter, WriteRing};
 use std::alloc::Allocator;
 
 /// Hands out the writer of a ring, if it was not handed out before. Does not allocate.
 pub(crate) fn writer<N: HubName<A>, A: Allocator + Copy>(
     alloc: A,
-    writes: &mut Vec<WriteLane<A>, A>,
+    writes: &mut Vec<WriteRing<A>, A>,
     ring: usize,
 ) -> Option<StreamWriter<N, A>>
     requires { AllLanes N.write_ring writes.old.items × (ring < 512) }
@@ -28,7 +28,7 @@ pub(crate) fn writer<N: HubName<A>, A: Allocator + Copy>(
 
 /// Hands out the reader of a stream, if it was not handed out before. Does not allocate.
 pub(crate) fn reader<N: HubName<A>, A: Allocator + Copy>(
-    reads: &mut Vec<ReadLane<A>, A>,
+    reads: &mut Vec<ReadRing<A>, A>,
     place: usize,
 ) -> Option<StreamReader<N, A>>
     requires { AllReadLanes N.read_ring reads.old.items × (place < 64) }
@@ -44,8 +44,8 @@ pub(crate) fn reader<N: HubName<A>, A: Allocator + Copy>(
 /// Hands out the first writer and the reader of a stream that nobody has. Does not allocate.
 pub(crate) fn ends<N: HubName<A>, A: Allocator + Copy>(
     alloc: A,
-    writes: &mut Vec<WriteLane<A>, A>,
-    reads: &mut Vec<ReadLane<A>, A>,
+    writes: &mut Vec<WriteRing<A>, A>,
+    reads: &mut Vec<ReadRing<A>, A>,
     place: usize,
 ) -> (StreamWriter<N, A>, StreamReader<N, A>)
     requires lanes { AllLanes N.write_ring writes.old.items × AllReadLanes N.read_ring reads.old.items × (place < 64) }
@@ -66,7 +66,7 @@ pub(crate) fn ends<N: HubName<A>, A: Allocator + Copy>(
 /// The lowest place of an open stream whose reader is still here.
 pub(crate) fn first_left<A: Allocator + Copy>(
     core: &EndState<A>,
-    reads: &Vec<ReadLane<A>, A>,
+    reads: &Vec<ReadRing<A>, A>,
 ) -> Option<u8>
     requires { length reads.now.items ≡ 64 }
     ensures found { IfSome result (λ s. (s < 64) × (has_stream core.now (s + 1) ≡ true) × ((outlet_at (map outlet_of reads.now.items) s).out ≡ false)) }
@@ -82,7 +82,7 @@ pub(crate) fn first_left<A: Allocator + Copy>(
 }
 
 // Whether a stream is open whose reader is still here.
-fn is_left<A: Allocator + Copy>(core: &EndState<A>, reads: &Vec<ReadLane<A>, A>, place: u8) -> bool
+fn is_left<A: Allocator + Copy>(core: &EndState<A>, reads: &Vec<ReadRing<A>, A>, place: u8) -> bool
     requires { (length reads.now.items ≡ 64) × (place < 64) }
     ensures { result ≡ (has_stream core.now (place + 1) && not (outlet_at (map outlet_of reads.now.items) place).out) }
 {
@@ -90,7 +90,7 @@ fn is_left<A: Allocator + Copy>(core: &EndState<A>, reads: &Vec<ReadLane<A>, A>,
 }
 
 // Whether the reader of a stream is still here.
-fn is_here<A: Allocator + Copy>(reads: &Vec<ReadLane<A>, A>, place: u8) -> bool
+fn is_here<A: Allocator + Copy>(reads: &Vec<ReadRing<A>, A>, place: u8) -> bool
     requires { (length reads.now.items ≡ 64) × (place < 64) }
     ensures { result ≡ not (outlet_at (map outlet_of reads.now.items) place).out }
 {
@@ -99,7 +99,7 @@ fn is_here<A: Allocator + Copy>(reads: &Vec<ReadLane<A>, A>, place: u8) -> bool
 
 /// The number of items in the ring of this writer. Does not allocate.
 pub(crate) fn meet_writer<N: HubName<A>, A: Allocator + Copy>(
-    writes: &mut Vec<WriteLane<A>, A>,
+    writes: &mut Vec<WriteRing<A>, A>,
     writer: &mut StreamWriter<N, A>,
 ) -> usize
     requires { AllLanes N.write_ring writes.old.items }
@@ -115,7 +115,7 @@ pub(crate) fn meet_writer<N: HubName<A>, A: Allocator + Copy>(
 
 /// The number of items in the ring of this reader. Does not allocate.
 pub(crate) fn meet_reader<N: HubName<A>, A: Allocator + Copy>(
-    reads: &mut Vec<ReadLane<A>, A>,
+    reads: &mut Vec<ReadRing<A>, A>,
     reader: &mut StreamReader<N, A>,
 ) -> usize
     requires { AllReadLanes N.read_ring reads.old.items }

@@ -26,9 +26,17 @@ pub use error::HubError;
 pub use hub::HubState;
 pub use hub_link::HubLink;
 pub use laws::merges_are_told;
-pub use st_end::Received;
-pub use st_hop_desk::{AccountShares, DeskError, HopDesk, serve};
-pub use st_links::{Clock, FailLink, Link, LinkFault, Outcome};
-pub use st_queues::{StreamReader, StreamWriter};
+pub use st_devices::Counted;
+pub use st_end::{EndError, EndState, Failed, Received};
+pub use st_hop_desk::{
+    AccountShares, Arrived, Books, DeskError, HopDesk, HopState, NoBooks, Owed, Served, Ticket,
+    serve,
+};
+pub use st_ilp::Moment;
+pub use st_links::{Booked, Clock, FailLink, Link, LinkFault, Links, Outcome};
+pub use st_queues::{
+    Gauge, GaugeSeat, Got, HubName, QueueError, Rings, StreamReader, StreamWriter,
+};
+pub use st_sender::Blocked;
 pub use turns::{CreditShare, SHARES, Step, Turn};
 pub use workers::{Ivs, WorkEnd, Worker, work};

@@ -12,7 +12,7 @@ ghost use Rattle.st_hub.specs.Trying.{HadMemory, Longer, Stops, Fuller, StopsGiv
 ghost use Rattle.st_hub.specs.Inside.{inlet_of, outlet_of, known_of, room_of, flow_of, taken_at, stands_at, put_at, free_at, Grow, Fill, AllLanes, AllReadLanes};
 
 use st_end::{EndError, EndState};
-use st_queues::{Delivery, HubName, Item, ROOM, ReadLane, STREAMS, WRITERS, WriteLane};
+use st_queues::{Delivery, HubName, Item, ROOM, ReadRing, STREAMS, WRITERS, WriteRing};
 use st_receiver::Got;
 use std::alloc::Allocator;
 
@@ -33,7 +33,7 @@ pub(crate) enum Pumped {
 }
 
 /// Whether a writer was handed out whose end is not removed from its ring yet.
-pub(crate) fn is_busy<A: Allocator + Copy>(lane: &WriteLane<A>) -> bool
+pub(crate) fn is_busy<A: Allocator + Copy>(lane: &WriteRing<A>) -> bool
     requires { lane.now.over ≡ has_end (taken lane.now.end) }
     ensures { result ≡ is_writing (inlet_of lane.now) }
 {
@@ -56,7 +56,7 @@ fn close_last<A: Allocator + Copy>(
 // Moves the first item of a ring to the end, if the end accepts it.
 fn take_first<A: Allocator + Copy>(
     core: &mut EndState<A>,
-    lane: &mut WriteLane<A>,
+    lane: &mut WriteRing<A>,
     stream: u8,
     is_last: bool,
 ) -> Pumped
@@ -67,7 +67,7 @@ fn take_first<A: Allocator + Copy>(
     ensures grows { Longer (taken lane.old.end) (known lane.old.end) (taken lane.new.end) (known lane.new.end) }
     ensures stops { Stops stream result (taken lane.old.end) core.new (taken lane.new.end) (known lane.new.end) }
 {
-    let WriteLane { end, held: _, over } = lane;
+    let WriteRing { end, held: _, over } = lane;
     if *over || !end.look() {
         return Pumped::Stuck;
     }
@@ -96,7 +96,7 @@ fn take_first<A: Allocator + Copy>(
 // Delivers what a read gives to a ring that has room, and whose last was not put there yet.
 fn give_first<A: Allocator + Copy>(
     core: &mut EndState<A>,
-    lane: &mut ReadLane<A>,
+    lane: &mut ReadRing<A>,
     stream: u8,
 ) -> Pumped
     requires { lane.old.over ≡ has_last (put_in lane.old.end) }
@@ -106,7 +106,7 @@ fn give_first<A: Allocator + Copy>(
     ensures fills { Fuller (put_in lane.old.end) (free_of lane.old.end) (put_in lane.new.end) (free_of lane.new.end) }
     ensures stops { StopsGiving stream core.old (put_in lane.old.end) result core.new (put_in lane.new.end) (free_of lane.new.end) }
 {
-    let ReadLane { end, held: _, over } = lane;
+    let ReadRing { end, held: _, over } = lane;
     if *over || end.room() == 0 {
         return Pumped::Stuck;
     }
@@ -135,7 +135,7 @@ fn give_first<A: Allocator + Copy>(
 
 // Whether this is another writer of the stream, and is left.
 fn is_other_busy<N: HubName<A>, A: Allocator + Copy>(
-    writes: &Vec<WriteLane<A>, A>,
+    writes: &Vec<WriteRing<A>, A>,
     place: usize,
     writer: usize,
     other: usize,
@@ -152,7 +152,7 @@ fn is_other_busy<N: HubName<A>, A: Allocator + Copy>(
 
 /// Whether no other writer of the stream at this place is left.
 pub(crate) fn is_last<N: HubName<A>, A: Allocator + Copy>(
-    writes: &Vec<WriteLane<A>, A>,
+    writes: &Vec<WriteRing<A>, A>,
     place: usize,
     writer: usize,
 ) -> bool
@@ -170,7 +170,7 @@ pub(crate) fn is_last<N: HubName<A>, A: Allocator + Copy>(
 // One try to remove an item from a ring in place.
 fn take_one<N: HubName<A>, A: Allocator + Copy>(
     core: &mut EndState<A>,
-    writes: &mut Vec<WriteLane<A>, A>,
+    writes: &mut Vec<WriteRing<A>, A>,
     place: usize,
     writer: usize,
 ) -> Pumped
@@ -188,7 +188,7 @@ fn take_one<N: HubName<A>, A: Allocator + Copy>(
 // One try to deliver to a ring in place.
 fn give_one<N: HubName<A>, A: Allocator + Copy>(
     core: &mut EndState<A>,
-    reads: &mut Vec<ReadLane<A>, A>,
+    reads: &mut Vec<ReadRing<A>, A>,
     place: usize,
 ) -> Pumped
     requires { AllReadLanes N.read_ring reads.old.items × (place < 64) }
@@ -204,7 +204,7 @@ fn give_one<N: HubName<A>, A: Allocator + Copy>(
 // Moves all that the end accepts of one ring.
 fn take_ring<N: HubName<A>, A: Allocator + Copy>(
     core: &mut EndState<A>,
-    writes: &mut Vec<WriteLane<A>, A>,
+    writes: &mut Vec<WriteRing<A>, A>,
     place: usize,
     writer: usize,
 ) -> Pumped
@@ -226,7 +226,7 @@ fn take_ring<N: HubName<A>, A: Allocator + Copy>(
 // Moves all that the end accepts of one stream, ring by ring.
 fn take_stream<N: HubName<A>, A: Allocator + Copy>(
     core: &mut EndState<A>,
-    writes: &mut Vec<WriteLane<A>, A>,
+    writes: &mut Vec<WriteRing<A>, A>,
     place: usize,
 ) -> Pumped
     requires { AllLanes N.write_ring writes.old.items × (place < 64) }
@@ -246,7 +246,7 @@ fn take_stream<N: HubName<A>, A: Allocator + Copy>(
 // Delivers all that there is room for of one stream.
 fn give_stream<N: HubName<A>, A: Allocator + Copy>(
     core: &mut EndState<A>,
-    reads: &mut Vec<ReadLane<A>, A>,
+    reads: &mut Vec<ReadRing<A>, A>,
     place: usize,
 ) -> Pumped
     requires { AllReadLanes N.read_ring reads.old.items × (place < 64) }
@@ -268,8 +268,8 @@ fn give_stream<N: HubName<A>, A: Allocator + Copy>(
 // and the end would refuse a write or a read.
 fn pump_stream<N: HubName<A>, A: Allocator + Copy>(
     core: &mut EndState<A>,
-    writes: &mut Vec<WriteLane<A>, A>,
-    reads: &mut Vec<ReadLane<A>, A>,
+    writes: &mut Vec<WriteRing<A>, A>,
+    reads: &mut Vec<ReadRing<A>, A>,
     place: usize,
 ) -> Pumped
     requires { AllLanes N.write_ring writes.old.items × AllReadLanes N.read_ring reads.old.items × (place < 64) }
@@ -291,8 +291,8 @@ fn pump_stream<N: HubName<A>, A: Allocator + Copy>(
 /// Moves what can be moved. At `NoMemory` what was moved stays moved, and the next item stays in its place.
 pub(crate) fn pump<N: HubName<A>, A: Allocator + Copy>(
     core: &mut EndState<A>,
-    writes: &mut Vec<WriteLane<A>, A>,
-    reads: &mut Vec<ReadLane<A>, A>,
+    writes: &mut Vec<WriteRing<A>, A>,
+    reads: &mut Vec<ReadRing<A>, A>,
 ) -> Pumped
     requires { AllLanes N.write_ring writes.old.items × AllReadLanes N.read_ring reads.old.items }
     ensures lanes { AllLanes N.write_ring writes.new.items × AllReadLanes N.read_ring reads.new.items }

@@ -27,7 +27,7 @@ use crate::{lanes, pumping};
 use st_end::{EndError, EndState, Flight, Received};
 use st_ilp::Moment;
 use st_links::Outcome;
-use st_queues::{HubName, ReadLane, StreamReader, StreamWriter, Totals, WriteLane};
+use st_queues::{HubName, ReadRing, StreamReader, StreamWriter, Totals, WriteRing};
 use std::alloc::Allocator;
 use std::marker::{Model, PhantomData};
 
@@ -37,9 +37,9 @@ use std::marker::{Model, PhantomData};
 pub(crate) struct Streams<N: HubName<A>, A: Allocator + Copy> {
     core: EndState<A>,
     // By ring number: writer j of the stream at place s is at 8 s + j.
-    writes: Vec<WriteLane<A>, A>,
+    writes: Vec<WriteRing<A>, A>,
     // By place: the stream of number k is at k - 1.
-    reads: Vec<ReadLane<A>, A>,
+    reads: Vec<ReadRing<A>, A>,
     alloc: A,
     of: PhantomData<N>,
 }
@@ -64,8 +64,8 @@ impl<N: HubName<A>, A: Allocator + Copy> Streams<N, A> {
     pub(crate) fn new(
         alloc: A,
         core: EndState<A>,
-        writes: Vec<WriteLane<A>, A>,
-        reads: Vec<ReadLane<A>, A>,
+        writes: Vec<WriteRing<A>, A>,
+        reads: Vec<ReadRing<A>, A>,
     ) -> Streams<N, A>
         requires fresh { IsNew core }
         requires writes { (vec_len writes ≡ 512) × AllNamed N.write_ring writes.items }

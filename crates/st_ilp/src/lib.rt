@@ -25,4 +25,5 @@ pub use moment::Moment;
 pub use packet::{Answer, MAX_DATA, MAX_MESSAGE, Prepare};
 pub use reading::{read_answer, read_prepare};
 pub use reject::{put_reject, reject_len};
+pub use st_oer::OerError;
 pub use writing::{write_answer, write_prepare};

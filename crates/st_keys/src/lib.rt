@@ -16,4 +16,4 @@ pub use keys::{Keys, condition};
 pub use laws::{hashes_have_32_bytes, opens_without_memory, payload_lengths, sealed_opens};
 pub use mac::hmac;
 pub use payload::OVERHEAD;
-pub use st_frames::{Frame, StreamPacket};
+pub use st_frames::{Frame, FrameError, Frames, StreamPacket};

@@ -25,5 +25,5 @@ pub use laws::{
 };
 pub use put::{length_size, put_length, put_octets, put_u8, put_u64, put_var_uint, var_uint_size};
 pub use rate::Rate;
-pub use st_devices::{CountRead, CountWrite, Counted};
+pub use st_devices::{CountRead, CountWrite, Counted, FailAt};
 pub use text::utf8;

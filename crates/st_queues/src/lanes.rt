@@ -11,7 +11,7 @@ use std::alloc::Allocator;
 
 /// A ring from a writer to the hub, as the hub stores it.
 #[derive(Drop)]
-pub struct WriteLane<A: Allocator + Copy> {
+pub struct WriteRing<A: Allocator + Copy> {
     /// The hub's side.
     pub end: WriteEnd<A>,
     /// The writer's side, until it is handed out.
@@ -20,7 +20,7 @@ pub struct WriteLane<A: Allocator + Copy> {
     pub over: bool,
 }
 
-impl<A: Allocator + Copy> WriteLane<A> {
+impl<A: Allocator + Copy> WriteRing<A> {
     ghost use Rattle.st_queues.specs.Lanes.{IsOurs};
 
     /// Hands out the writer. `None` if it was handed out before. Does not allocate.
@@ -39,7 +39,7 @@ impl<A: Allocator + Copy> WriteLane<A> {
 
 /// A ring from the hub to a reader, as the hub stores it.
 #[derive(Drop)]
-pub struct ReadLane<A: Allocator + Copy> {
+pub struct ReadRing<A: Allocator + Copy> {
     /// The hub's side.
     pub end: ReadEnd<A>,
     /// The reader's side, until it is handed out.
@@ -48,7 +48,7 @@ pub struct ReadLane<A: Allocator + Copy> {
     pub over: bool,
 }
 
-impl<A: Allocator + Copy> ReadLane<A> {
+impl<A: Allocator + Copy> ReadRing<A> {
     ghost use Rattle.st_queues.specs.Lanes.{IsOurRead};
     ghost use Rattle.st_queues.specs.declared.items.Over.TheVariants.{Open};
 

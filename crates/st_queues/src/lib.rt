@@ -22,7 +22,7 @@ pub use ends::{ReadEnd, WriteEnd};
 pub use error::QueueError;
 pub use gauge::{Gauge, GaugeSeat, HubSeat};
 pub use items::{Delivery, Got, Item};
-pub use lanes::{ReadLane, WriteLane};
+pub use lanes::{ReadRing, WriteRing};
 pub use name::HubName;
 pub use reader::StreamReader;
 pub use rings::{Named, ROOM, Rings, STREAMS, WRITERS};

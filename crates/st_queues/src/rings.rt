@@ -7,7 +7,7 @@ use crate::ends::{ReadEnd, WriteEnd};
 use crate::error::QueueError;
 use crate::gauge::{Gauge, GaugeSeat, HubSeat, NamedGauge, Opened};
 use crate::items::{Delivery, Item};
-use crate::lanes::{ReadLane, WriteLane};
+use crate::lanes::{ReadRing, WriteRing};
 use crate::name::HubName;
 use rtrb::RingBuffer;
 use std::alloc::{AllocError, Allocator};
@@ -29,8 +29,8 @@ const WRITE_RINGS: u16 = 512;
 /// gauge.
 #[derive(Drop)]
 pub struct Rings<A: Allocator + Copy> {
-    writes: Vec<WriteLane<A>, A>,
-    reads: Vec<ReadLane<A>, A>,
+    writes: Vec<WriteRing<A>, A>,
+    reads: Vec<ReadRing<A>, A>,
     gauge: Opened<A>,
     alloc: A,
 }
@@ -49,29 +49,29 @@ impl<A: Allocator + Copy> Model for Rings<A> {
 }
 
 // The ring of this number, with both its ends.
-fn write_lane<A: Allocator + Copy>(alloc: A, ring: u16) -> Result<WriteLane<A>, AllocError>
+fn write_lane<A: Allocator + Copy>(alloc: A, ring: u16) -> Result<WriteRing<A>, AllocError>
     ensures { IfOk result (λ x. Fresh ring x) }
 {
     let (producer, consumer) = RingBuffer::<Item<A>>::new(alloc, ROOM)?;
-    Ok(WriteLane {
+    Ok(WriteRing {
         end: WriteEnd { consumer, ring },
         held: Some(producer),
         over: false,
     })
 }
 
-fn read_lane<A: Allocator + Copy>(alloc: A, stream: u8) -> Result<ReadLane<A>, AllocError>
+fn read_lane<A: Allocator + Copy>(alloc: A, stream: u8) -> Result<ReadRing<A>, AllocError>
     ensures { IfOk result (λ x. FreshRead stream x) }
 {
     let (producer, consumer) = RingBuffer::<Delivery<A>>::new(alloc, ROOM)?;
-    Ok(ReadLane {
+    Ok(ReadRing {
         end: ReadEnd { producer, stream },
         held: Some(consumer),
         over: false,
     })
 }
 
-fn write_lanes<A: Allocator + Copy>(alloc: A) -> Result<Vec<WriteLane<A>, A>, AllocError>
+fn write_lanes<A: Allocator + Copy>(alloc: A) -> Result<Vec<WriteRing<A>, A>, AllocError>
     ensures { IfOk result (λ v. (vec_len v ≡ 512) × AllFresh v.items) }
 {
     let mut lanes = Vec::new(alloc);
@@ -82,7 +82,7 @@ fn write_lanes<A: Allocator + Copy>(alloc: A) -> Result<Vec<WriteLane<A>, A>, Al
     Ok(lanes)
 }
 
-fn read_lanes<A: Allocator + Copy>(alloc: A) -> Result<Vec<ReadLane<A>, A>, AllocError>
+fn read_lanes<A: Allocator + Copy>(alloc: A) -> Result<Vec<ReadRing<A>, A>, AllocError>
     ensures { IfOk result (λ v. (vec_len v ≡ 64) × AllFreshReads v.items) }
 {
     let mut lanes = Vec::new(alloc);
@@ -146,9 +146,9 @@ impl<A: Allocator + Copy> Rings<A> {
 #[derive(Drop)]
 pub struct Named<N: HubName<A>, A: Allocator + Copy> {
     /// The rings from writers, by number: writer `j` of stream `s` is at `8 s + j`.
-    pub writes: Vec<WriteLane<A>, A>,
+    pub writes: Vec<WriteRing<A>, A>,
     /// The rings to readers, by the index of their stream.
-    pub reads: Vec<ReadLane<A>, A>,
+    pub reads: Vec<ReadRing<A>, A>,
     /// The gauge that the hub publishes on.
     pub hub_gauge: Gauge<N, A>,
     /// The one seat that publishes.

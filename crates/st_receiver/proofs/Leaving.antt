@@ -198,26 +198,26 @@ aborted_told : (code m : ℕ) (o : Option Incoming) → SameTold (incoming_or (f
 aborted_told code m None = told_itself (fresh_incoming m)
 aborted_told code m (Some x) = record { read = abort_read (is_over x.held) x.held (Some code); receive_max = refl; credited = refl }
 
-connection_told : (r : Receiving) (f : Known) (j : ℕ) → SameTold (incoming_at r j) (incoming_at (after_connection_close r f) j)
-connection_told r (ConnectionClose code message) j =
+connection_advertised : (r : Receiving) (f : Known) (j : ℕ) → SameTold (incoming_at r j) (incoming_at (after_connection_close r f) j)
+connection_advertised r (ConnectionClose code message) j =
     let m = slice_index r.kept j in
     subst (λ o. SameTold (incoming_at r j) (incoming_or (fresh_incoming m) o)) (sym (slot_map (with_abort code) refl r.streams j)) (aborted_told code m (slot r.streams j))
-connection_told r (StreamClose k code message) j = told_itself (incoming_at r j)
-connection_told r (StreamData k o xs) j = told_itself (incoming_at r j)
-connection_told r (StreamMoney k n) j = told_itself (incoming_at r j)
-connection_told r (ConnectionNewAddress address) j = told_itself (incoming_at r j)
-connection_told r (ConnectionMaxData n) j = told_itself (incoming_at r j)
-connection_told r (ConnectionDataBlocked n) j = told_itself (incoming_at r j)
-connection_told r (StreamMaxMoney k n m) j = told_itself (incoming_at r j)
-connection_told r (StreamMoneyBlocked k n m) j = told_itself (incoming_at r j)
-connection_told r (StreamMaxData k n) j = told_itself (incoming_at r j)
-connection_told r (StreamDataBlocked k n) j = told_itself (incoming_at r j)
+connection_advertised r (StreamClose k code message) j = told_itself (incoming_at r j)
+connection_advertised r (StreamData k o xs) j = told_itself (incoming_at r j)
+connection_advertised r (StreamMoney k n) j = told_itself (incoming_at r j)
+connection_advertised r (ConnectionNewAddress address) j = told_itself (incoming_at r j)
+connection_advertised r (ConnectionMaxData n) j = told_itself (incoming_at r j)
+connection_advertised r (ConnectionDataBlocked n) j = told_itself (incoming_at r j)
+connection_advertised r (StreamMaxMoney k n m) j = told_itself (incoming_at r j)
+connection_advertised r (StreamMoneyBlocked k n m) j = told_itself (incoming_at r j)
+connection_advertised r (StreamMaxData k n) j = told_itself (incoming_at r j)
+connection_advertised r (StreamDataBlocked k n) j = told_itself (incoming_at r j)
 
 connections_told : (r : Receiving) (fs : List Known) (j : ℕ) → SameTold (incoming_at r j) (incoming_at (after_connection_closes r fs) j)
 unfolding after_connection_closes
 connections_told r [] j = told_itself (incoming_at r j)
 connections_told r (f ∷ fs) j =
-    told_join (incoming_at r j) (incoming_at (after_connection_close r f) j) (incoming_at (after_connection_closes (after_connection_close r f) fs) j) (connection_told r f j) (connections_told (after_connection_close r f) fs j)
+    told_join (incoming_at r j) (incoming_at (after_connection_close r f) j) (incoming_at (after_connection_closes (after_connection_close r f) fs) j) (connection_advertised r f j) (connections_told (after_connection_close r f) fs j)
 
 -- what money leaves of a stream
 pub record SameLimits (x y : Incoming) : Type 0 where

@@ -30,4 +30,4 @@ pub use got::Got;
 pub use intake::{Decision, Intake, Plan};
 pub use laws::{clean_close_ends_at_highest, every_step_is_lawful, parts_add_up};
 pub use reason::Reason;
-pub use st_frames::StreamPacket;
+pub use st_frames::{Frame, Frames, StreamPacket};

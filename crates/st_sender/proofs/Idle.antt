@@ -7,7 +7,7 @@ use Rattle.std.proofs.lemmas.Bool.{cases_eq}
 use Rattle.std.proofs.lemmas.Bool.Decides.{nat_tests}
 use Rattle.st_frames.specs.Frames.{Known, ConnectionClose, ConnectionNewAddress, ConnectionMaxData, ConnectionDataBlocked, StreamClose, StreamMoney, StreamMaxMoney, StreamMoneyBlocked, StreamData, StreamMaxData, StreamDataBlocked}
 use Rattle.st_streams.specs.Slots.{Slots, slot}
-use Rattle.st_sender.specs.Sending.{Outgoing, Data, Whole, Flown, Flight, Sending, outgoing_at}
+use Rattle.st_sender.specs.Sending.{Outgoing, Data, Whole, SentFrame, Flight, Sending, outgoing_at}
 use Rattle.st_sender.specs.Flights.{any_frame, carries, due_at, sent_end, flying_end, highest_end, all_ends, flying_least, room_for, due_money}
 use Rattle.st_sender.specs.Due.{IsDueData, IsDueMoney, IsDueClose}
 use Rattle.st_sender.specs.Loads.{Fits, MoneyFits, least_of, load_with}
@@ -18,7 +18,7 @@ use Rattle.std.proofs.lemmas.List.Sums.{sum_by-cons}
 use Rattle.st_sender.specs.Paying.{payable, payable_at, allowed_money}
 use Rattle.st_frames.specs.Written.{packet_length}
 use native.Mathlib.Nat.{zero-mul, zero-div}
-use Rattle.st_sender.specs.Lanes.{Lane, due_in, out_of, outs, flying_by, flying_in, AreBooked}
+use Rattle.st_sender.specs.Lanes.{SendStream, due_in, out_of, outs, flying_by, flying_in, AreBooked}
 use Rattle.st_sender.specs.declared.bounds.Bounds.{Bounds}
 use Rattle.st_sender.specs.Allowed.{bounds, end_in, end_at, lane_ends, IsAllowed, IsReadyAt, NoneReady, IsFinishedAt, NoneUnit, IsRest, AreBytes, least_for}
 use Rattle.st_streams.proofs.SlotLemmas.{slot_within}
@@ -31,7 +31,7 @@ use Rattle.st_sender.proofs.Rates.{fits_allowed, exchanged_rises}
 abbrev pub data_alone : ℕ → ℕ → List ℕ → List Known
 data_alone k o xs = StreamData k o xs ∷ []
 
-abbrev pub data_flown : ℕ → ℕ → ℕ → List Flown
+abbrev pub data_flown : ℕ → ℕ → ℕ → List SentFrame
 data_flown k o n = Data k o n ∷ []
 
 abbrev pub close_alone : ℕ → ℕ → List Known
@@ -79,7 +79,7 @@ none_needed r = omega (arith, none_exchanged r)
 no_money : (s : Sending) (t : Option (ℕ × ℕ)) (flying : ℕ) → MoneyFits t flying (room_for s.config.least 0)
 no_money s t flying = none_more t flying (room_for s.config.least 0) (none_needed s.config.least)
 
-pub opened : (o : Option Lane) (x : Outgoing) → out_of o ≡ Some x → (l : Lane) × (o ≡ Some l) × (l.out ≡ x)
+pub opened : (o : Option SendStream) (x : Outgoing) → out_of o ≡ Some x → (l : SendStream) × (o ≡ Some l) × (l.out ≡ x)
 opened None x e = absurd (cc)
 opened (Some l) x e = (l, refl, (let f : ◌≡◌ {A = Option Outgoing} (Some l.out) (Some x) = e in cc))
 
@@ -97,31 +97,31 @@ index_get [] i b e = absurd (cc)
 index_get (x ∷ xs) zero b e = (omega arith, cc)
 index_get (x ∷ xs) (suc i) b e = let r = index_get xs i b e in (omega (arith, r.0), r.1)
 
-same_end : (flights : List Flight) (k : ℕ) (s : Sending) (o : Option Lane) → s.flights ≡ flights → sent_end s k (out_of o) ≡ end_in flights k o
+same_end : (flights : List Flight) (k : ℕ) (s : Sending) (o : Option SendStream) → s.flights ≡ flights → sent_end s k (out_of o) ≡ end_in flights k o
 same_end flights k s None e = refl
 same_end flights k s (Some l) e = ap (λ ps. max l.out.acked_end (flying_end k ps)) e
 
-module _ (s : Sending) (lanes : Slots Lane) (room : ℕ) (is : s.streams ≡ outs lanes) (len : length lanes ≡ 65) (booked : AreBooked lanes s.flights) where
+module _ (s : Sending) (lanes : Slots SendStream) (room : ℕ) (is : s.streams ≡ outs lanes) (len : length lanes ≡ 65) (booked : AreBooked lanes s.flights) where
   abbrev b : Bounds
   b = bounds lanes s.flights s.told (s.last + 1) room
 
   lane_of : (k : ℕ) → outgoing_at s k ≡ out_of (slot lanes k)
   lane_of k = ap (λ (xs : Slots Outgoing). slot xs k) is ∙ out_slot lanes k
 
-  pub lane_open : (k : ℕ) (x : Outgoing) → outgoing_at s k ≡ Some x → (l : Lane) × (slot lanes k ≡ Some l) × (l.out ≡ x)
+  pub lane_open : (k : ℕ) (x : Outgoing) → outgoing_at s k ≡ Some x → (l : SendStream) × (slot lanes k ≡ Some l) × (l.out ≡ x)
   lane_open k x e = opened (slot lanes k) x (sym (lane_of k) ∙ e)
 
-  pub seen_open : (k : ℕ) (l : Lane) → slot lanes k ≡ Some l → outgoing_at s k ≡ Some l.out
+  pub seen_open : (k : ℕ) (l : SendStream) → slot lanes k ≡ Some l → outgoing_at s k ≡ Some l.out
   seen_open k l e = lane_of k ∙ ap out_of e
 
-  pub within : (k : ℕ) (l : Lane) → slot lanes k ≡ Some l → k < 65
+  pub within : (k : ℕ) (l : SendStream) → slot lanes k ≡ Some l → k < 65
   within k l e = omega (arith, slot_within lanes k l e, len)
 
   -- what is due in the model is due in the lane
-  pub due_same : (k : ℕ) (l : Lane) → slot lanes k ≡ Some l → (q : ℕ) → due_at s k l.out q ≡ due_in l q
+  pub due_same : (k : ℕ) (l : SendStream) → slot lanes k ≡ Some l → (q : ℕ) → due_at s k l.out q ≡ due_in l q
   due_same k l e q = ap (λ t. cond t None (fmap.get l.out.unacked q)) (sym (ap is_some (sym (ap (λ y. flying_in y q) e) ∙ booked k q) ∙ flown k s.flights q))
 
-  due_lane : (k o : ℕ) (xs : List ℕ) (d : IsDueData s k o xs) (l : Lane) → slot lanes k ≡ Some l → (i byte : ℕ) → slice_get xs i ≡ Some byte → due_in l (o + i) ≡ Some byte
+  due_lane : (k o : ℕ) (xs : List ℕ) (d : IsDueData s k o xs) (l : SendStream) → slot lanes k ≡ Some l → (i byte : ℕ) → slice_get xs i ≡ Some byte → due_in l (o + i) ≡ Some byte
   due_lane k o xs d l e i byte g =
       let a = d.is_open in
       let c = seen_open k l e in
@@ -146,11 +146,11 @@ module _ (s : Sending) (lanes : Slots Lane) (room : ℕ) (is : s.streams ≡ out
   unfolding all_ends lane_ends
   ends_whole g = sum_same (λ j. max (sent_end s j (outgoing_at s j)) 0) (end_at lanes s.flights) 0 65 (λ j h. omega (arith, sent_at j))
 
-  pub end_here : (k : ℕ) (l : Lane) → slot lanes k ≡ Some l → end_at lanes s.flights k ≡ max l.out.acked_end (flying_end k s.flights)
+  pub end_here : (k : ℕ) (l : SendStream) → slot lanes k ≡ Some l → end_at lanes s.flights k ≡ max l.out.acked_end (flying_end k s.flights)
   end_here k l e = ap (λ y. end_in s.flights k y) e
 
   -- what fits is allowed by the numbers, and so is a part of it
-  allowed_by : (k o : ℕ) (xs : List ℕ) (l : Lane) → slot lanes k ≡ Some l → lane_ends lanes s.flights 0 65 ≤ s.told → Fits s room (load_with s (data_alone k o xs)) → (n : ℕ) → n ≤ length xs → IsAllowed s.flights b k l o n
+  allowed_by : (k o : ℕ) (xs : List ℕ) (l : SendStream) → slot lanes k ≡ Some l → lane_ends lanes s.flights 0 65 ≤ s.told → Fits s room (load_with s (data_alone k o xs)) → (n : ℕ) → n ≤ length xs → IsAllowed s.flights b k l o n
   allowed_by k o xs l e under fits n short =
       let top = fits.streams k l.out (seen_open k l e) in
       let grown = ends_with k o (length xs) (within k l e) in
@@ -179,10 +179,10 @@ module _ (s : Sending) (lanes : Slots Lane) (room : ℕ) (is : s.streams ≡ out
       let x = due.stream in
       let shares : sum_by shares_of (StreamMoney k n ∷ []) ≡ n = omega (arith, sum_by-cons shares_of (StreamMoney k n) []) in
       let own : money_in k (StreamMoney k n ∷ []) ≡ n = omega (arith, sum_by-cons (money_of k) (StreamMoney k n) [], own_amount k n) in
-      let money : MoneyFits x.told_money (flying_least s k) (room_for r n) = subst (λ m. MoneyFits x.told_money (flying_least s k) (room_for r m)) own (fits.money k x due.is_open) in
-      let most = fits_allowed r ratio x.told_money (flying_least s k) (due_money s k x) n due.due money in
-      let here : payable_at lanes r s.flights k ≡ allowed_money r x.told_money (flying_least s k) (due_money s k x) =
-      ap (λ o. payable r s.flights k o) found.1 ∙ ap (λ (y : Outgoing). allowed_money r y.told_money (flying_least s k) (due_money s k y)) found.2 in
+      let money : MoneyFits x.advertised_money (flying_least s k) (room_for r n) = subst (λ m. MoneyFits x.advertised_money (flying_least s k) (room_for r m)) own (fits.money k x due.is_open) in
+      let most = fits_allowed r ratio x.advertised_money (flying_least s k) (due_money s k x) n due.due money in
+      let here : payable_at lanes r s.flights k ≡ allowed_money r x.advertised_money (flying_least s k) (due_money s k x) =
+      ap (λ o. payable r s.flights k o) found.1 ∙ ap (λ (y : Outgoing). allowed_money r y.advertised_money (flying_least s k) (due_money s k y)) found.2 in
       let some : 0 < payable_at lanes r s.flights k = omega (arith, here, most, due.some) in
       let stops = none k (within k l found.1) some (omega (arith, fits.amount, shares, due.some)) in
       let least : least_for r 1 ≤ least_of s (sum_by shares_of (StreamMoney k n ∷ [])) = omega (arith, exchanged_rises r ratio 1 (sum_by shares_of (StreamMoney k n ∷ [])) (omega (arith, shares, due.some))) in

@@ -8,7 +8,7 @@ use Rattle.st_oer.specs.Ratios.{Ratio}
 use Rattle.st_streams.specs.Slots.{Slots}
 use Rattle.st_sender.specs.declared.load.Payment.{Payment}
 use Rattle.st_sender.specs.Sending.{Flight}
-use Rattle.st_sender.specs.Lanes.{Lane}
+use Rattle.st_sender.specs.Lanes.{SendStream}
 use Rattle.st_sender.specs.declared.bounds.Bounds.{Bounds}
 use Rattle.st_sender.specs.Allowed.{NoneUnit, least_for, unit_size}
 use Rattle.st_sender.specs.Paying.{total, payable, payable_at, all_payable, IsPayment, Pays}
@@ -22,13 +22,13 @@ all_push P (q ∷ ms) p a h = (a.0, all_push P ms p a.1 h)
 sum_push : (xs : List ℕ) (x : ℕ) → sum (xs ++ x ∷ []) ≡ sum xs + x
 sum_push xs x = sum_by_push (λ n. n) xs x
 
-payable_more : (lanes : Slots Lane) (r : Ratio) (ps : List Flight) (n : ℕ) → all_payable lanes r ps (n + 1) ≡ all_payable lanes r ps n + payable_at lanes r ps n
+payable_more : (lanes : Slots SendStream) (r : Ratio) (ps : List Flight) (n : ℕ) → all_payable lanes r ps (n + 1) ≡ all_payable lanes r ps n + payable_at lanes r ps n
 payable_more lanes r ps n = ap sum (map-range_with_len_more (payable_at lanes r ps) 0 n n (omega arith)) ∙ sum_push (map (payable_at lanes r ps) (range_with_len 0 n)) (payable_at lanes r ps n)
 
 abbrev paid : ℕ → ℕ → Payment
 paid n most = record { stream = n; amount = most }
 
-pays_none : (lanes : Slots Lane) (r : Ratio) (ps : List Flight) (limit room : ℕ) → Pays lanes r ps limit room 0 []
+pays_none : (lanes : Slots SendStream) (r : Ratio) (ps : List Flight) (limit room : ℕ) → Pays lanes r ps limit room 0 []
 pays_none lanes r ps limit room = record {
   each = tt;
   own = λ k. omega arith;
@@ -39,7 +39,7 @@ pays_none lanes r ps limit room = record {
   filled = λ h. omega arith;
 }
 
-pays_push : (lanes : Slots Lane) (r : Ratio) (ps : List Flight) (limit room n left most : ℕ) (ms : List Payment) → Pays lanes r ps limit room n ms → left + total ms ≡ limit
+pays_push : (lanes : Slots SendStream) (r : Ratio) (ps : List Flight) (limit room n left most : ℕ) (ms : List Payment) → Pays lanes r ps limit room n ms → left + total ms ≡ limit
     → most ≡ min (payable_at lanes r ps n) left → 0 < most → length ms < room / 34 → Pays lanes r ps limit room (n + 1) (ms ++ paid n most ∷ [])
 pays_push lanes r ps limit room n left most ms p e m some fits =
     let long = length-append ms (paid n most ∷ []) in
@@ -58,7 +58,7 @@ pays_push lanes r ps limit room n left most ms p e m some fits =
       filled = λ h. omega (arith, all, more, p.filled h);
     }
 
-pub pays_skip : (lanes : Slots Lane) (r : Ratio) (ps : List Flight) (limit room n left most : ℕ) (ms : List Payment) → Pays lanes r ps limit room n ms → left + total ms ≡ limit → n < 65
+pub pays_skip : (lanes : Slots SendStream) (r : Ratio) (ps : List Flight) (limit room n left most : ℕ) (ms : List Payment) → Pays lanes r ps limit room n ms → left + total ms ≡ limit → n < 65
     → most ≡ min (payable_at lanes r ps n) left → (0 < most → room / 34 ≤ length ms) → Pays lanes r ps limit room (n + 1) ms
 pays_skip lanes r ps limit room n left most ms p e lt m stops =
     let more = payable_more lanes r ps n in
@@ -72,28 +72,28 @@ pays_skip lanes r ps limit room n left most ms p e lt m stops =
       filled = λ h. elim (cases_lt 0 most) [ inl s ↦ (let t = stops s in omega (arith, p.few, t)) | inr z ↦ omega (arith, more, p.filled h) ];
     }
 
-pub none_unit_more : (lanes : Slots Lane) (ps : List Flight) (r : Ratio) (limit : ℕ) (b : Bounds) (n : ℕ) → NoneUnit lanes ps r limit b n
+pub none_unit_more : (lanes : Slots SendStream) (ps : List Flight) (r : Ratio) (limit : ℕ) (b : Bounds) (n : ℕ) → NoneUnit lanes ps r limit b n
     → (0 < payable_at lanes r ps n → b.room < unit_size b.sequence (least_for r 1) n) → NoneUnit lanes ps r limit b (n + 1)
 none_unit_more lanes ps r limit b n before here k h some any = elim (cases_lt k n) [
   | inl low ↦ before k low some any
   | inr high ↦ (let same : k ≡ n = omega arith in rw same (here (rw (sym same) some)))
 ]
 
-pub pays_all : (lanes : Slots Lane) (r : Ratio) (ps : List Flight) (limit room n : ℕ) (ms : List Payment) → n ≡ 65 → Pays lanes r ps limit room n ms → Pays lanes r ps limit room 65 ms
+pub pays_all : (lanes : Slots SendStream) (r : Ratio) (ps : List Flight) (limit room n : ℕ) (ms : List Payment) → n ≡ 65 → Pays lanes r ps limit room n ms → Pays lanes r ps limit room 65 ms
 pays_all lanes r ps limit room n ms e p = subst (λ i. Pays lanes r ps limit room i ms) e p
 
 -- how much money may be sent and is sent on a stream, by what is at its place
-pub due_at : (lanes : Slots Lane) (r : Ratio) (ps : List Flight) (n : ℕ) (o : Option Lane) (due : ℕ) → n < length lanes → o ≡ get_or lanes n o → due ≡ payable r ps n o → due ≡ payable_at lanes r ps n
+pub due_at : (lanes : Slots SendStream) (r : Ratio) (ps : List Flight) (n : ℕ) (o : Option SendStream) (due : ℕ) → n < length lanes → o ≡ get_or lanes n o → due ≡ payable r ps n o → due ≡ payable_at lanes r ps n
 due_at lanes r ps n o due lt at is = is ∙ ap (payable r ps n) (sym (found_at lanes n o lt at))
 
-pub most_at : (lanes : Slots Lane) (r : Ratio) (ps : List Flight) (n : ℕ) (o : Option Lane) (due left most : ℕ) → n < length lanes → o ≡ get_or lanes n o → due ≡ payable r ps n o → most ≡ min due left → most ≡ min (payable_at lanes r ps n) left
+pub most_at : (lanes : Slots SendStream) (r : Ratio) (ps : List Flight) (n : ℕ) (o : Option SendStream) (due left most : ℕ) → n < length lanes → o ≡ get_or lanes n o → due ≡ payable r ps n o → most ≡ min due left → most ≡ min (payable_at lanes r ps n) left
 most_at lanes r ps n o due left most lt at is m = m ∙ ap (λ (d : ℕ). min d left) (due_at lanes r ps n o due lt at is)
 
-pub pays_pushed : (lanes : Slots Lane) (r : Ratio) (ps : List Flight) (limit room n left most : ℕ) (ms all : List Payment) → all ≡ ms ++ paid n most ∷ [] → Pays lanes r ps limit room n ms → left + total ms ≡ limit
+pub pays_pushed : (lanes : Slots SendStream) (r : Ratio) (ps : List Flight) (limit room n left most : ℕ) (ms all : List Payment) → all ≡ ms ++ paid n most ∷ [] → Pays lanes r ps limit room n ms → left + total ms ≡ limit
     → most ≡ min (payable_at lanes r ps n) left → 0 < most → length ms < room / 34 → Pays lanes r ps limit room (n + 1) all × ((left - most) + total all ≡ limit)
 pays_pushed lanes r ps limit room n left most ms all pushed p e m some fits =
     subst (λ (xs : List Payment). Pays lanes r ps limit room (n + 1) xs × ((left - most) + total xs ≡ limit)) (sym pushed)
     (pays_push lanes r ps limit room n left most ms p e m some fits, omega (arith, total_push ms (paid n most), e, m))
 
-pub pays_first : (lanes : Slots Lane) (r : Ratio) (ps : List Flight) (limit room : ℕ) (ms : List Payment) → ms ≡ [] → Pays lanes r ps limit room 0 ms × (limit + total ms ≡ limit)
+pub pays_first : (lanes : Slots SendStream) (r : Ratio) (ps : List Flight) (limit room : ℕ) (ms : List Payment) → ms ≡ [] → Pays lanes r ps limit room 0 ms × (limit + total ms ≡ limit)
 pays_first lanes r ps limit room ms none = subst (λ (xs : List Payment). Pays lanes r ps limit room 0 xs × (limit + total xs ≡ limit)) (sym none) (pays_none lanes r ps limit room, omega arith)

@@ -9,15 +9,15 @@ use Rattle.std.proofs.Math.Seq.{drop-cons}
 use Rattle.st_streams.specs.Slots.{Slots, slot}
 use Rattle.st_frames.specs.Frames.{Known, StreamClose, StreamData}
 use Rattle.st_sender.specs.declared.bounds.Bounds.{Bounds}
-use Rattle.st_sender.specs.declared.load.Flown as code
-use Rattle.st_sender.specs.declared.load.Flown.TheVariants as held
+use Rattle.st_sender.specs.declared.load.SentFrame as code
+use Rattle.st_sender.specs.declared.load.SentFrame.TheVariants as held
 use Rattle.st_sender.specs.declared.notice.Notice.{Notice}
 use Rattle.st_sender.specs.declared.notice.Notice.TheVariants as said
 use Rattle.st_sender.specs.Sending.{Outgoing, Flight, Marks}
 use Rattle.st_sender.specs.Flights.{closes, tells, is_close, same_limit}
 use Rattle.st_sender.specs.Due.{IsAbort, IsCleanClose}
 use Rattle.st_sender.specs.Loads.{same_due}
-use Rattle.st_sender.specs.Lanes.{Lane}
+use Rattle.st_sender.specs.Lanes.{SendStream}
 use Rattle.st_sender.specs.Noticed.{is_limit, IsAwaited, NoneAwaited}
 use Rattle.st_sender.specs.Allowed.{close_size, IsFinished, NoneReady, IsNone, less, cost, costs, AreNext, IsCloseBelow, IsLimit, IsPrompted, IsData, AreDistinct, has_close, has_limit, AreClosings, AreAwaited, IsRoundOf, AreChosen}
 use Rattle.st_sender.specs.Shown.{shown, known_by, telling, framed}
@@ -66,7 +66,7 @@ less_less b m n = let e : b.room - m - n ≡ b.room - (m + n) = omega arith in a
 pub less_none : (b : Bounds) (n : ℕ) → n ≡ 0 → ◌≡◌ {A = Bounds} (less b n) b
 less_none b n z = let e : b.room - n ≡ b.room = omega (arith, z) in ap (λ (i : ℕ). record b { room = i }) e
 
-pub finished_rises : (flights : List Flight) (b c : Bounds) (k : ℕ) (l : Lane) (code : ℕ) → b.sequence ≡ c.sequence → b.room ≤ c.room → IsFinished flights b k l code → IsFinished flights c k l code
+pub finished_rises : (flights : List Flight) (b c : Bounds) (k : ℕ) (l : SendStream) (code : ℕ) → b.sequence ≡ c.sequence → b.room ≤ c.room → IsFinished flights b k l code → IsFinished flights c k l code
 finished_rises flights b c k l code same h f = record { idle = f.idle; asked = f.asked; room_left = omega (arith, f.room_left, h, ap (λ i. close_size i k) same) }
 
 pub awaited_rises : (m : Marks) (flights : List Flight) (b : Bounds) (n p : ℕ) (f : Known) → b.room - n ≤ b.room - p → IsAwaited m flights (less b n) f → IsAwaited m flights (less b p) f
@@ -74,46 +74,46 @@ awaited_rises m flights b n p f h a = record { marked = a.marked; idle = a.idle;
 
 -- ---- several frames
 
-abbrev Next : Slots Lane → List Flight → Marks → List Known → List code.Flown → Bounds → Type 0
+abbrev Next : Slots SendStream → List Flight → Marks → List Known → List code.SentFrame → Bounds → Type 0
 Next lanes flights m limits fs b = AreNext lanes flights m limits b fs
 
-pub next_with : (lanes : Slots Lane) (flights : List Flight) (m : Marks) (limits : List Known) (b : Bounds) (fs gs : List code.Flown) → AllByRecursion IsPrompted fs → AreNext lanes flights m limits b fs → AreNext lanes flights m limits (less b (costs fs)) gs → AreNext lanes flights m limits b (fs ++ gs)
+pub next_with : (lanes : Slots SendStream) (flights : List Flight) (m : Marks) (limits : List Known) (b : Bounds) (fs gs : List code.SentFrame) → AllByRecursion IsPrompted fs → AreNext lanes flights m limits b fs → AreNext lanes flights m limits (less b (costs fs)) gs → AreNext lanes flights m limits b (fs ++ gs)
 next_with lanes flights m limits b [] gs p a n = subst (Next lanes flights m limits gs) (less_none b 0 refl) n
 next_with lanes flights m limits b (held.Data k o c ∷ fs) gs p a n = absurd p.0
 next_with lanes flights m limits b (held.Close k c ∷ fs) gs p a n = (a.0, next_with lanes flights m limits (less b 20) fs gs p.1 a.1 (subst (Next lanes flights m limits gs) (sym (less_less b 20 (costs fs))) n))
 next_with lanes flights m limits b (held.Notice x ∷ fs) gs p a n = (a.0, a.1, next_with lanes flights m limits (less b 36) fs gs p.1 a.2 (subst (Next lanes flights m limits gs) (sym (less_less b 36 (costs fs))) n))
 
-close_prompted : (n : ℕ) (f : code.Flown) → IsCloseBelow n f → IsPrompted f
+close_prompted : (n : ℕ) (f : code.SentFrame) → IsCloseBelow n f → IsPrompted f
 close_prompted n (held.Data k o c) p = absurd p
 close_prompted n (held.Close k c) p = tt
 close_prompted n (held.Notice x) p = absurd p
 
-close_later : (n : ℕ) (f : code.Flown) → IsCloseBelow n f → IsCloseBelow (n + 1) f
+close_later : (n : ℕ) (f : code.SentFrame) → IsCloseBelow n f → IsCloseBelow (n + 1) f
 close_later n (held.Data k o c) p = absurd p
 close_later n (held.Close k c) p = omega (arith, p)
 close_later n (held.Notice x) p = absurd p
 
-limit_prompted : (f : code.Flown) → IsLimit f → IsPrompted f
+limit_prompted : (f : code.SentFrame) → IsLimit f → IsPrompted f
 limit_prompted (held.Data k o c) p = absurd p
 limit_prompted (held.Close k c) p = absurd p
 limit_prompted (held.Notice x) p = p
 
 -- ---- nothing is carried twice
 
-all_seen : (Q : code.Flown → Type 0) (R : Known → Type 0) (xs : ℕ → List ℕ) → ((g : code.Flown) → Q g → R (known_by xs g)) → (gs : List code.Flown) → AllByRecursion Q gs → AllByRecursion R (framed xs gs)
+all_seen : (Q : code.SentFrame → Type 0) (R : Known → Type 0) (xs : ℕ → List ℕ) → ((g : code.SentFrame) → Q g → R (known_by xs g)) → (gs : List code.SentFrame) → AllByRecursion Q gs → AllByRecursion R (framed xs gs)
 all_seen Q R xs h [] q = tt
 all_seen Q R xs h (g ∷ gs) q = (h g q.0, all_seen Q R xs h gs q.1)
 
-all_from : (R : Known → Type 0) (xs : ℕ → List ℕ) (fs gs : List code.Flown) → AllByRecursion R (framed xs fs) → AllByRecursion R (framed xs gs) → AllByRecursion R (framed xs (fs ++ gs))
+all_from : (R : Known → Type 0) (xs : ℕ → List ℕ) (fs gs : List code.SentFrame) → AllByRecursion R (framed xs fs) → AllByRecursion R (framed xs gs) → AllByRecursion R (framed xs (fs ++ gs))
 all_from R xs [] gs a b = b
 all_from R xs (f ∷ fs) gs a b = (a.0, all_from R xs fs gs a.1 b)
 
-apart_with : (P Q : code.Flown → Type 0) → ((f g : code.Flown) (xs : ℕ → List ℕ) → P f → Q g → same_due (known_by xs f) (known_by xs g) ≡ false) → (fs gs : List code.Flown) → AllByRecursion P fs → AllByRecursion Q gs → AreDistinct fs → AreDistinct gs → AreDistinct (fs ++ gs)
+apart_with : (P Q : code.SentFrame → Type 0) → ((f g : code.SentFrame) (xs : ℕ → List ℕ) → P f → Q g → same_due (known_by xs f) (known_by xs g) ≡ false) → (fs gs : List code.SentFrame) → AllByRecursion P fs → AllByRecursion Q gs → AreDistinct fs → AreDistinct gs → AreDistinct (fs ++ gs)
 apart_with P Q h [] gs p q a b xs = b xs
 apart_with P Q h (f ∷ fs) gs p q a b xs =
     (all_from (λ g. same_due (known_by xs f) g ≡ false) xs fs gs (a xs).0 (all_seen Q (λ g. same_due (known_by xs f) g ≡ false) xs (λ g r. h f g xs p.0 r) gs q), apart_with P Q h fs gs p.1 q (λ ys. (a ys).1) b xs)
 
-one_distinct : (f : code.Flown) → AreDistinct (f ∷ [])
+one_distinct : (f : code.SentFrame) → AreDistinct (f ∷ [])
 one_distinct f xs = (tt, tt)
 
 pub no_close : (k c : ℕ) (n : Notice) → is_close k c (telling n) ≡ false
@@ -132,22 +132,22 @@ no_data (said.ConnectionMaxData l) k o xs = refl
 no_data (said.StreamMaxData j l) k o xs = refl
 no_data (said.StreamMaxMoney j l t) k o xs = refl
 
-close_apart : (n by : ℕ) (f g : code.Flown) (xs : ℕ → List ℕ) → IsCloseBelow n f → g ≡ held.Close n by → same_due (known_by xs f) (known_by xs g) ≡ false
+close_apart : (n by : ℕ) (f g : code.SentFrame) (xs : ℕ → List ℕ) → IsCloseBelow n f → g ≡ held.Close n by → same_due (known_by xs f) (known_by xs g) ≡ false
 close_apart n by (held.Data k o c) g xs p e = absurd p
 close_apart n by (held.Notice x) g xs p e = absurd p
-close_apart n by (held.Close k c) g xs p e = subst (λ (h : code.Flown). same_due (StreamClose k c []) (known_by xs h) ≡ false) (sym e) (lower k n c by p)
+close_apart n by (held.Close k c) g xs p e = subst (λ (h : code.SentFrame). same_due (StreamClose k c []) (known_by xs h) ≡ false) (sym e) (lower k n c by p)
   where
     lower : (k n c by : ℕ) → k < n → (nat_eq n k && nat_eq by c) ≡ false
     lower k n c by h = grind (arith, nat_tests)
 
-close_limit : (f g : code.Flown) (xs : ℕ → List ℕ) → IsCloseBelow 65 f → IsLimit g → same_due (known_by xs f) (known_by xs g) ≡ false
+close_limit : (f g : code.SentFrame) (xs : ℕ → List ℕ) → IsCloseBelow 65 f → IsLimit g → same_due (known_by xs f) (known_by xs g) ≡ false
 close_limit (held.Data k o c) g xs p q = absurd p
 close_limit (held.Notice x) g xs p q = absurd p
 close_limit (held.Close k c) (held.Data j o n) xs p q = absurd q
 close_limit (held.Close k c) (held.Close j d) xs p q = absurd q
 close_limit (held.Close k c) (held.Notice x) xs p q = no_close k c x
 
-data_apart : (f g : code.Flown) (xs : ℕ → List ℕ) → IsPrompted f → IsData g → same_due (known_by xs f) (known_by xs g) ≡ false
+data_apart : (f g : code.SentFrame) (xs : ℕ → List ℕ) → IsPrompted f → IsData g → same_due (known_by xs f) (known_by xs g) ≡ false
 data_apart (held.Data k o c) g xs p q = absurd p
 data_apart (held.Close k c) (held.Data j o n) xs p q = refl
 data_apart (held.Close k c) (held.Close j d) xs p q = absurd q
@@ -196,7 +196,7 @@ own_limit (said.StreamMaxMoney j l t) e = own_number j
 
 -- ---- closes
 
-pub closings_none : (lanes : Slots Lane) (flights : List Flight) (b : Bounds) → AreClosings lanes flights b 0 []
+pub closings_none : (lanes : Slots SendStream) (flights : List Flight) (b : Bounds) → AreClosings lanes flights b 0 []
 closings_none lanes flights b = record {
   goes = λ m limits. tt;
   each = tt;
@@ -215,9 +215,9 @@ one_code x c d (inr a) (inr b) = a.code_is ∙ sym b.code_is
 own_close : (n by : ℕ) → has_close n by (held.Close n by ∷ []) ≡ true
 own_close n by = grind (arith, nat_tests)
 
-module _ (lanes : Slots Lane) (flights : List Flight) (b : Bounds) (n : ℕ) (fs : List code.Flown) (small : n < 65) (a : AreClosings lanes flights b n fs) where
+module _ (lanes : Slots SendStream) (flights : List Flight) (b : Bounds) (n : ℕ) (fs : List code.SentFrame) (small : n < 65) (a : AreClosings lanes flights b n fs) where
   -- of this stream none goes
-  pub closings_skip : ((l : Lane) → slot lanes n ≡ Some l → (by : ℕ) → ¬ IsFinished flights (less b (costs fs)) n l by) → AreClosings lanes flights b (n + 1) fs
+  pub closings_skip : ((l : SendStream) → slot lanes n ≡ Some l → (by : ℕ) → ¬ IsFinished flights (less b (costs fs)) n l by) → AreClosings lanes flights b (n + 1) fs
   closings_skip here = record {
     goes = a.goes;
     each = every_weaker (IsCloseBelow n) (IsCloseBelow (n + 1)) (close_later n) fs a.each;
@@ -232,8 +232,8 @@ module _ (lanes : Slots Lane) (flights : List Flight) (b : Bounds) (n : ℕ) (fs
   }
 
   -- one goes
-  pub closings_push : (l : Lane) (by : ℕ) (gs : List code.Flown) → slot lanes n ≡ Some l → IsFinished flights (less b (costs fs)) n l by → gs ≡ fs ++ held.Close n by ∷ [] → AreClosings lanes flights b (n + 1) gs
-  closings_push l by gs at f is = subst (λ (hs : List code.Flown). AreClosings lanes flights b (n + 1) hs) (sym is) (record {
+  pub closings_push : (l : SendStream) (by : ℕ) (gs : List code.SentFrame) → slot lanes n ≡ Some l → IsFinished flights (less b (costs fs)) n l by → gs ≡ fs ++ held.Close n by ∷ [] → AreClosings lanes flights b (n + 1) gs
+  closings_push l by gs at f is = subst (λ (hs : List code.SentFrame). AreClosings lanes flights b (n + 1) hs) (sym is) (record {
     goes = λ m limits. next_with lanes flights m limits b fs (held.Close n by ∷ []) (every_weaker (IsCloseBelow n) IsPrompted (close_prompted n) fs a.each) (a.goes m limits) (record { lane = l; is_open = at; is_own = small; finished = f }, tt);
     each = every_with (IsCloseBelow (n + 1)) fs (held.Close n by ∷ []) (every_weaker (IsCloseBelow n) (IsCloseBelow (n + 1)) (close_later n) fs a.each) (omega arith, tt);
     apart = apart_with (IsCloseBelow n) (λ g. g ≡ held.Close n by) (close_apart n by) fs (held.Close n by ∷ []) a.each (refl, tt) a.apart (one_distinct (held.Close n by));
@@ -241,9 +241,9 @@ module _ (lanes : Slots Lane) (flights : List Flight) (b : Bounds) (n : ℕ) (fs
     all = λ k c j h e g. elim (cases_lt k n) [
       | inl low ↦ any_left (λ x. closes k c (shown x)) fs (held.Close n by ∷ []) (a.all k c j low e g)
       | inr high ↦ (let same : k ≡ n = omega arith in
-          let own : ◌≡◌ {A = Option Lane} (Some j) (Some l) = sym (subst (λ i. slot lanes i ≡ Some j) same e) ∙ at in
+          let own : ◌≡◌ {A = Option SendStream} (Some j) (Some l) = sym (subst (λ i. slot lanes i ≡ Some j) same e) ∙ at in
           let lane : j ≡ l = cc in
-          let asked : IsAbort l.out c ⊎ IsCleanClose l.out c = subst (λ (i : Lane). IsAbort i.out c ⊎ IsCleanClose i.out c) lane g.asked in
+          let asked : IsAbort l.out c ⊎ IsCleanClose l.out c = subst (λ (i : SendStream). IsAbort i.out c ⊎ IsCleanClose i.out c) lane g.asked in
           let named : c ≡ by = one_code l.out c by asked f.asked in
           any_right (λ x. closes k c (shown x)) fs (held.Close n by ∷ []) (ap (λ i. has_close i c (held.Close n by ∷ [])) same ∙ ap (λ i. has_close n i (held.Close n by ∷ [])) named ∙ own_close n by))
     ];
@@ -263,29 +263,29 @@ awaited_none m flights b limits = record {
   none = λ e f c. inl c;
 }
 
-limits_cost : (fs : List code.Flown) → AllByRecursion IsLimit fs → costs fs ≡ 36 * length fs
+limits_cost : (fs : List code.SentFrame) → AllByRecursion IsLimit fs → costs fs ≡ 36 * length fs
 limits_cost [] a = omega arith
 limits_cost (held.Data k o c ∷ fs) a = absurd a.0
 limits_cost (held.Close k c ∷ fs) a = absurd a.0
 limits_cost (held.Notice x ∷ fs) a = omega (arith, limits_cost fs a.1)
 
 -- a frame of a limit, but not of this notice's limit
-abbrev IsOther : Notice → code.Flown → Type 0
+abbrev IsOther : Notice → code.SentFrame → Type 0
 IsOther x g = IsLimit g × (tells (telling x) (shown g) ≡ false)
 
-others : (x : Notice) (fs : List code.Flown) → AllByRecursion IsLimit fs → has_limit (telling x) fs ≡ false → AllByRecursion (IsOther x) fs
+others : (x : Notice) (fs : List code.SentFrame) → AllByRecursion IsLimit fs → has_limit (telling x) fs ≡ false → AllByRecursion (IsOther x) fs
 others x [] a h = tt
 others x (g ∷ fs) a h = let w = or_false (tells (telling x) (shown g)) (has_limit (telling x) fs) h in ((a.0, w.0), others x fs a.1 w.1)
 
-limit_apart : (x : Notice) (f g : code.Flown) (xs : ℕ → List ℕ) → IsOther x f → g ≡ held.Notice x → same_due (known_by xs f) (known_by xs g) ≡ false
+limit_apart : (x : Notice) (f g : code.SentFrame) (xs : ℕ → List ℕ) → IsOther x f → g ≡ held.Notice x → same_due (known_by xs f) (known_by xs g) ≡ false
 limit_apart x (held.Data k o c) g xs p e = absurd p.0
 limit_apart x (held.Close k c) g xs p e = absurd p.0
-limit_apart x (held.Notice y) g xs p e = subst (λ (h : code.Flown). same_due (telling y) (known_by xs h) ≡ false) (sym e) (said_apart y x p.0 p.1)
+limit_apart x (held.Notice y) g xs p e = subst (λ (h : code.SentFrame). same_due (telling y) (known_by xs h) ≡ false) (sym e) (said_apart y x p.0 p.1)
 
 awaited_limit : (m : Marks) (flights : List Flight) (b : Bounds) (f : Known) → IsAwaited m flights b f → is_limit f ≡ true
 awaited_limit m flights b f a = by_test (is_limit f) (λ e. e) (λ e. absurd (no_limit m flights b f e a))
 
-module _ (m : Marks) (flights : List Flight) (b : Bounds) (limits : List Known) (n : ℕ) (x : Known) (more : List Known) (fs : List code.Flown) (within : n < length limits) (a : AreAwaited m flights b limits n (x ∷ more) fs) where
+module _ (m : Marks) (flights : List Flight) (b : Bounds) (limits : List Known) (n : ℕ) (x : Known) (more : List Known) (fs : List code.SentFrame) (within : n < length limits) (a : AreAwaited m flights b limits n (x ∷ more) fs) where
   abbrev Skips : Type 0
   Skips = (length limits ≤ 129 → IsAwaited m flights (less b 4644) x → has_limit x fs ≡ true) × (fs ≡ [] → ¬ IsAwaited m flights b x)
 
@@ -325,10 +325,10 @@ module _ (m : Marks) (flights : List Flight) (b : Bounds) (limits : List Known) 
     ];
   }
 
-  pub awaited_push : (y : Notice) (gs : List code.Flown) → Contains limits x → telling y ≡ x → IsAwaited m flights (less b (costs fs)) (telling y) → length fs < 129 → has_limit (telling y) fs ≡ false → gs ≡ fs ++ held.Notice y ∷ [] → AreAwaited m flights b limits (n + 1) more gs
+  pub awaited_push : (y : Notice) (gs : List code.SentFrame) → Contains limits x → telling y ≡ x → IsAwaited m flights (less b (costs fs)) (telling y) → length fs < 129 → has_limit (telling y) fs ≡ false → gs ≡ fs ++ held.Notice y ∷ [] → AreAwaited m flights b limits (n + 1) more gs
   awaited_push y gs stands named w few new is =
       let own = awaited_limit m flights (less b (costs fs)) (telling y) w in
-      subst (λ (hs : List code.Flown). AreAwaited m flights b limits (n + 1) more hs) (sym is) (record {
+      subst (λ (hs : List code.SentFrame). AreAwaited m flights b limits (n + 1) more hs) (sym is) (record {
         goes = λ lanes. next_with lanes flights m limits b fs (held.Notice y ∷ []) (every_weaker IsLimit IsPrompted limit_prompted fs a.each) (a.goes lanes) (subst (λ (g : Known). Contains limits g) (sym named) stands, w, tt);
         each = every_with IsLimit fs (held.Notice y ∷ []) a.each (own, tt);
         apart = apart_with (IsOther y) (λ g. g ≡ held.Notice y) (limit_apart y) fs (held.Notice y ∷ []) (others y fs a.each new) (refl, tt) a.apart (one_distinct (held.Notice y));
@@ -346,7 +346,7 @@ module _ (m : Marks) (flights : List Flight) (b : Bounds) (limits : List Known) 
 
 -- ---- all frames other than payments
 
-pub chosen : (lanes : Slots Lane) (flights : List Flight) (m : Marks) (limits : List Known) (b : Bounds) (turn : ℕ) (cs ns ds fs : List code.Flown) (at : Bounds) (count : ℕ) → AreClosings lanes flights b 65 cs → AreAwaited m flights (less b (costs cs)) limits count [] ns → at ≡ less (less b (costs cs)) (costs ns)
+pub chosen : (lanes : Slots SendStream) (flights : List Flight) (m : Marks) (limits : List Known) (b : Bounds) (turn : ℕ) (cs ns ds fs : List code.SentFrame) (at : Bounds) (count : ℕ) → AreClosings lanes flights b 65 cs → AreAwaited m flights (less b (costs cs)) limits count [] ns → at ≡ less (less b (costs cs)) (costs ns)
     → IsRoundOf lanes flights at turn ds → AreDistinct ds → fs ≡ (cs ++ ns) ++ ds → AreChosen lanes flights m limits b turn fs
 chosen lanes flights m limits b turn cs ns ds fs at count c n at_is round apart_data is =
     let prompt = cs ++ ns in
@@ -360,7 +360,7 @@ chosen lanes flights m limits b turn cs ns ds fs at count c n at_is round apart_
       prompt = prompt;
       data_frames = ds;
       are = is;
-      goes = subst (λ (gs : List code.Flown). AreNext lanes flights m limits b gs) (sym is) (next_with lanes flights m limits b prompt ds each next (here.are.goes m limits));
+      goes = subst (λ (gs : List code.SentFrame). AreNext lanes flights m limits b gs) (sym is) (next_with lanes flights m limits b prompt ds each next (here.are.goes m limits));
       each = each;
       apart = subst AreDistinct (sym is) (apart_with IsPrompted IsData data_apart prompt ds each here.are.each apart apart_data);
       few = omega (arith, sum, c.few, n.most);
@@ -380,11 +380,11 @@ chosen lanes flights m limits b turn cs ns ds fs at count c n at_is round apart_
     }
 
 -- nothing was chosen
-none_both : (prompt ds : List code.Flown) → [] ≡ prompt ++ ds → (prompt ≡ []) × (ds ≡ [])
+none_both : (prompt ds : List code.SentFrame) → [] ≡ prompt ++ ds → (prompt ≡ []) × (ds ≡ [])
 none_both [] ds e = (refl, sym e)
 none_both (f ∷ fs) ds e = absurd (cc)
 
-pub chosen_none : (lanes : Slots Lane) (flights : List Flight) (m : Marks) (limits : List Known) (b : Bounds) (turn : ℕ) → AreChosen lanes flights m limits b turn [] → IsNone lanes flights b × NoneAwaited m flights b limits
+pub chosen_none : (lanes : Slots SendStream) (flights : List Flight) (m : Marks) (limits : List Known) (b : Bounds) (turn : ℕ) → AreChosen lanes flights m limits b turn [] → IsNone lanes flights b × NoneAwaited m flights b limits
 chosen_none lanes flights m limits b turn c =
     let w = none_both c.prompt c.data_frames c.are in
     let idle = c.none w.0 in
@@ -394,7 +394,7 @@ chosen_none lanes flights m limits b turn c =
 
 -- ---- one frame after the other
 
-pub push_left : (b at new : Bounds) (n : ℕ) (fs gs : List code.Flown) (f : code.Flown) → at ≡ less b (costs fs) → new ≡ less at n → cost f ≡ n → gs ≡ fs ++ f ∷ [] → ◌≡◌ {A = Bounds} new (less b (costs gs))
+pub push_left : (b at new : Bounds) (n : ℕ) (fs gs : List code.SentFrame) (f : code.SentFrame) → at ≡ less b (costs fs) → new ≡ less at n → cost f ≡ n → gs ≡ fs ++ f ∷ [] → ◌≡◌ {A = Bounds} new (less b (costs gs))
 push_left b at new n fs gs f at_is new_is n_is is =
     let sum : costs fs + n ≡ costs gs = omega (arith, n_is, ap costs is, costs_with fs (f ∷ [])) in
     new_is ∙ ap (λ (d : Bounds). less d n) at_is ∙ less_less b (costs fs) n ∙ ap (λ (i : ℕ). less b i) sum
@@ -411,8 +411,8 @@ place_in see [] i d h = absurd (omega arith)
 place_in see (x ∷ xs) zero d h = (0, omega arith, refl)
 place_in see (x ∷ xs) (suc i) d h = let r = place_in see xs i d (omega arith) in (suc r.0, omega (arith, r.1), r.2)
 
-module _ (m : Marks) (flights : List Flight) (b : Bounds) {X : Type 0} (see : X → Known) (xs : List X) (i : ℕ) (fs : List code.Flown) (at : Bounds) (at_is : at ≡ less b (costs fs)) (lt : i < length xs) (a : AreAwaited m flights b (map see xs) i (map see (drop i xs)) fs) (d : X) where
-  abbrev After : List code.Flown → Type 0
+module _ (m : Marks) (flights : List Flight) (b : Bounds) {X : Type 0} (see : X → Known) (xs : List X) (i : ℕ) (fs : List code.SentFrame) (at : Bounds) (at_is : at ≡ less b (costs fs)) (lt : i < length xs) (a : AreAwaited m flights b (map see xs) i (map see (drop i xs)) fs) (d : X) where
+  abbrev After : List code.SentFrame → Type 0
   After gs = AreAwaited m flights b (map see xs) (i + 1) (map see (drop (i + 1) xs)) gs
 
   here : AreAwaited m flights b (map see xs) i (see (get_or xs i d) ∷ map see (drop (i + 1) xs)) fs
@@ -436,16 +436,16 @@ module _ (m : Marks) (flights : List Flight) (b : Bounds) {X : Type 0} (see : X 
       awaited_skip m flights b (map see xs) i (see (get_or xs i d)) (map see (drop (i + 1) xs)) fs inside here
       (too_many m flights b (map see xs) i (see (get_or xs i d)) (map see (drop (i + 1) xs)) fs inside here h)
 
-  pub push_this : (y : Notice) (gs : List code.Flown) → telling y ≡ see (get_or xs i d) → IsAwaited m flights at (telling y) → length fs < 129 → has_limit (telling y) fs ≡ false → gs ≡ fs ++ held.Notice y ∷ [] → After gs
+  pub push_this : (y : Notice) (gs : List code.SentFrame) → telling y ≡ see (get_or xs i d) → IsAwaited m flights at (telling y) → length fs < 129 → has_limit (telling y) fs ≡ false → gs ≡ fs ++ held.Notice y ∷ [] → After gs
   push_this y gs named w few new is =
       awaited_push m flights b (map see xs) i (see (get_or xs i d)) (map see (drop (i + 1) xs)) fs inside here y gs (place_in see xs i d lt) named (subst (λ (c : Bounds). IsAwaited m flights c (telling y)) at_is w) few new is
 
 -- whatever the place is called
-pub full_any : (m : Marks) (flights : List Flight) (b : Bounds) {X : Type 0} (see : X → Known) (xs : List X) (i : ℕ) (fs : List code.Flown) (at : Bounds) → at ≡ less b (costs fs) → i < length xs → AreAwaited m flights b (map see xs) i (map see (drop i xs)) fs → 129 ≤ length fs → AreAwaited m flights b (map see xs) (i + 1) (map see (drop (i + 1) xs)) fs
+pub full_any : (m : Marks) (flights : List Flight) (b : Bounds) {X : Type 0} (see : X → Known) (xs : List X) (i : ℕ) (fs : List code.SentFrame) (at : Bounds) → at ≡ less b (costs fs) → i < length xs → AreAwaited m flights b (map see xs) i (map see (drop i xs)) fs → 129 ≤ length fs → AreAwaited m flights b (map see xs) (i + 1) (map see (drop (i + 1) xs)) fs
 full_any m flights b see [] i fs at at_is lt a h = absurd (omega (arith, lt))
 full_any m flights b see (x ∷ xs) i fs at at_is lt a h = full_this m flights b see (x ∷ xs) i fs at at_is lt a x h
 
-pub done_all : (m : Marks) (flights : List Flight) (b : Bounds) {X : Type 0} (see : X → Known) (xs : List X) (i : ℕ) (fs : List code.Flown) → length xs ≤ i → i ≤ length xs → AreAwaited m flights b (map see xs) i (map see (drop i xs)) fs → AreAwaited m flights b (map see xs) (length xs) [] fs
+pub done_all : (m : Marks) (flights : List Flight) (b : Bounds) {X : Type 0} (see : X → Known) (xs : List X) (i : ℕ) (fs : List code.SentFrame) → length xs ≤ i → i ≤ length xs → AreAwaited m flights b (map see xs) i (map see (drop i xs)) fs → AreAwaited m flights b (map see xs) (length xs) [] fs
 done_all m flights b see xs i fs past end a =
     let same : i ≡ length xs = omega arith in
     let none : map see (drop i xs) ≡ [] = ap (map see) (drop_all i xs past) in

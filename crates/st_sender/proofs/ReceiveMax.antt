@@ -16,7 +16,7 @@ use Rattle.st_sender.specs.ReceiveMax.{left_of, KeepsTo, WentTo, AllWentTo, AllK
 less_than_next : (r : Ratio) → IsRatio r → (n : ℕ) → n * r.num < exchanged r n * r.den + r.den
 less_than_next r is n = lt-div-mul-add {a = n * r.num} {b = r.den} is.1
 
-fits_told : (s : Sending) (room k : ℕ) (x : Outgoing) (p : Load) (receive_max received : ℕ) → Fits s room p → outgoing_at s k ≡ Some x → x.told_money ≡ Some (receive_max, received) → room_for s.config.least (money_in k p.frames) ≤ left_of s k receive_max received
+fits_told : (s : Sending) (room k : ℕ) (x : Outgoing) (p : Load) (receive_max received : ℕ) → Fits s room p → outgoing_at s k ≡ Some x → x.advertised_money ≡ Some (receive_max, received) → room_for s.config.least (money_in k p.frames) ≤ left_of s k receive_max received
 fits_told s room k x p receive_max received fits at told = subst (λ (o : Option (ℕ × ℕ)). MoneyFits o (flying_least s k) (room_for s.config.least (money_in k p.frames))) told (fits.money k x at)
 
 keeps : (r : Ratio) → IsRatio r → (left amount : ℕ) → room_for r amount ≤ left → KeepsTo r left amount

@@ -7,11 +7,11 @@ use Rattle.std.proofs.lemmas.Bool.Decides.{nat_tests}
 use Rattle.st_streams.specs.Slots.{Slots, slot}
 use Rattle.st_frames.specs.Frames.{Known, StreamData}
 use Rattle.st_sender.specs.declared.bounds.Bounds.{Bounds}
-use Rattle.st_sender.specs.declared.load.Flown as code
-use Rattle.st_sender.specs.declared.load.Flown.TheVariants as held
+use Rattle.st_sender.specs.declared.load.SentFrame as code
+use Rattle.st_sender.specs.declared.load.SentFrame.TheVariants as held
 use Rattle.st_sender.specs.Sending.{Flight, Marks}
 use Rattle.st_sender.specs.Flights.{flying_end}
-use Rattle.st_sender.specs.Lanes.{Lane}
+use Rattle.st_sender.specs.Lanes.{SendStream}
 use Rattle.st_sender.specs.Turns.{comes_before, is_among, AreInOrder}
 use Rattle.st_sender.specs.Loads.{same_due, AllApart}
 use Rattle.st_sender.specs.Shown.{known_by, framed}
@@ -57,41 +57,41 @@ own_test k = grind (arith, nat_tests)
 
 -- ---- what frames take of the bounds
 
-pub raises_with : (lanes : Slots Lane) (flights : List Flight) (fs gs : List code.Flown) → raises lanes flights (fs ++ gs) ≡ raises lanes flights fs + raises lanes flights gs
+pub raises_with : (lanes : Slots SendStream) (flights : List Flight) (fs gs : List code.SentFrame) → raises lanes flights (fs ++ gs) ≡ raises lanes flights fs + raises lanes flights gs
 raises_with lanes flights [] gs = omega arith
 raises_with lanes flights (f ∷ fs) gs = omega (arith, raises_with lanes flights fs gs)
 
-pub costs_with : (fs gs : List code.Flown) → costs (fs ++ gs) ≡ costs fs + costs gs
+pub costs_with : (fs gs : List code.SentFrame) → costs (fs ++ gs) ≡ costs fs + costs gs
 costs_with [] gs = omega arith
 costs_with (f ∷ fs) gs = omega (arith, costs_with fs gs)
 
 pub bounds_same : (b c : Bounds) → b.spare ≡ c.spare → b.sequence ≡ c.sequence → b.room ≡ c.room → ◌≡◌ {A = Bounds} b c
 bounds_same b c e f h = λ i. record { spare = e i; sequence = f i; room = h i }
 
-pub left_none : (lanes : Slots Lane) (flights : List Flight) (b : Bounds) → ◌≡◌ {A = Bounds} (left_beside lanes flights b []) b
+pub left_none : (lanes : Slots SendStream) (flights : List Flight) (b : Bounds) → ◌≡◌ {A = Bounds} (left_beside lanes flights b []) b
 left_none lanes flights b = bounds_same (left_beside lanes flights b []) b (omega arith) refl (omega arith)
 
-left_close : (lanes : Slots Lane) (flights : List Flight) (b : Bounds) (k by : ℕ) (fs : List code.Flown) → ◌≡◌ {A = Bounds} (left_beside lanes flights b (held.Close k by ∷ fs)) (left_beside lanes flights (less b 20) fs)
+left_close : (lanes : Slots SendStream) (flights : List Flight) (b : Bounds) (k by : ℕ) (fs : List code.SentFrame) → ◌≡◌ {A = Bounds} (left_beside lanes flights b (held.Close k by ∷ fs)) (left_beside lanes flights (less b 20) fs)
 left_close lanes flights b k by fs = bounds_same (left_beside lanes flights b (held.Close k by ∷ fs)) (left_beside lanes flights (less b 20) fs) (omega arith) refl (omega arith)
 
-left_data : (lanes : Slots Lane) (flights : List Flight) (b : Bounds) (k o c : ℕ) (fs : List code.Flown)
+left_data : (lanes : Slots SendStream) (flights : List Flight) (b : Bounds) (k o c : ℕ) (fs : List code.SentFrame)
     → ◌≡◌ {A = Bounds} (left_beside lanes flights b (held.Data k o c ∷ fs)) (left_beside lanes flights (left_by b (c + 32) (o + c - end_at lanes flights k)) fs)
 left_data lanes flights b k o c fs = bounds_same (left_beside lanes flights b (held.Data k o c ∷ fs)) (left_beside lanes flights (left_by b (c + 32) (o + c - end_at lanes flights k)) fs) (omega arith) refl (omega arith)
 
 -- ---- one frame of data more
 
-serves_with : (fs gs : List code.Flown) → serves (fs ++ gs) ≡ serves fs ++ serves gs
+serves_with : (fs gs : List code.SentFrame) → serves (fs ++ gs) ≡ serves fs ++ serves gs
 serves_with [] gs = refl
 serves_with (held.Data k o c ∷ fs) gs = ap (λ ks. k ∷ ks) (serves_with fs gs)
 serves_with (held.Close k by ∷ fs) gs = serves_with fs gs
 serves_with (held.Notice n ∷ fs) gs = serves_with fs gs
 
 -- a stream that has none still has none after another stream's frame
-still_apart : (j k o c : ℕ) (fs : List code.Flown) → is_among j (serves fs) ≡ false → nat_eq j k ≡ false → is_among j (serves (fs ++ held.Data k o c ∷ [])) ≡ false
+still_apart : (j k o c : ℕ) (fs : List code.SentFrame) → is_among j (serves fs) ≡ false → nat_eq j k ≡ false → is_among j (serves (fs ++ held.Data k o c ∷ [])) ≡ false
 still_apart j k o c fs e d =
     ap (is_among j) (serves_with fs (held.Data k o c ∷ [])) ∙ among_append j (serves fs) (k ∷ []) ∙ or_both (is_among j (serves fs)) (is_among j (k ∷ [])) e (or_both (nat_eq j k) false d refl)
 
-pub next_push : (lanes : Slots Lane) (flights : List Flight) (m : Marks) (limits : List Known) (b : Bounds) (fs : List code.Flown) (k o c : ℕ) → AllByRecursion IsData fs → AreNext lanes flights m limits b fs → IsReadyAt lanes flights (left_beside lanes flights b fs) k o c → is_among k (serves fs) ≡ false
+pub next_push : (lanes : Slots SendStream) (flights : List Flight) (m : Marks) (limits : List Known) (b : Bounds) (fs : List code.SentFrame) (k o c : ℕ) → AllByRecursion IsData fs → AreNext lanes flights m limits b fs → IsReadyAt lanes flights (left_beside lanes flights b fs) k o c → is_among k (serves fs) ≡ false
     → AreNext lanes flights m limits b (fs ++ held.Data k o c ∷ [])
 next_push lanes flights m limits b [] k o c d a r apart = (subst (λ (x : Bounds). IsReadyAt lanes flights x k o c) (left_none lanes flights b) r, refl, tt)
 next_push lanes flights m limits b (held.Data j p n ∷ fs) k o c d a r apart =
@@ -108,13 +108,13 @@ order_push t [] k a b = (tt, tt)
 order_push t (x ∷ ks) k a b = (every_with (λ l. comes_before t x l ≡ true) ks (k ∷ []) a.0 (b.0, tt), order_push t ks k a.1 b.1)
 
 -- a stream that no limit lets go is stopped however wide the room is
-pub unable_stopped : (flights : List Flight) (b : Bounds) (k : ℕ) (l : Lane) → ¬ MayFly flights b.spare k l → IsStopped flights b k l
+pub unable_stopped : (flights : List Flight) (b : Bounds) (k : ℕ) (l : SendStream) → ¬ MayFly flights b.spare k l → IsStopped flights b k l
 unable_stopped flights b k l cannot o byte due a = cannot (record { offset = o; byte = byte; due = due; stream = a.stream; connection = a.connection })
 
 placed_later : (start n k : ℕ) → IsPlaced start n k → IsPlaced start (n + 1) k
 placed_later start n k p = (p.0, omega (arith, p.1), p.2)
 
-pub served_none : (lanes : Slots Lane) (flights : List Flight) (b : Bounds) (turn : ℕ) → AreServed lanes flights b turn 0 []
+pub served_none : (lanes : Slots SendStream) (flights : List Flight) (b : Bounds) (turn : ℕ) → AreServed lanes flights b turn 0 []
 served_none lanes flights b turn = record {
   goes = λ m limits. tt;
   each = tt;
@@ -123,7 +123,7 @@ served_none lanes flights b turn = record {
   all = λ j l h e. absurd (omega (arith, h));
 }
 
-module _ (lanes : Slots Lane) (flights : List Flight) (b : Bounds) (turn n : ℕ) (fs : List code.Flown) (small : n < 65) (a : AreServed lanes flights b turn n fs) where
+module _ (lanes : Slots SendStream) (flights : List Flight) (b : Bounds) (turn n : ℕ) (fs : List code.SentFrame) (small : n < 65) (a : AreServed lanes flights b turn n fs) where
   abbrev this : ℕ
   this = in_round (start_of turn) n
 
@@ -135,7 +135,7 @@ module _ (lanes : Slots Lane) (flights : List Flight) (b : Bounds) (turn n : ℕ
   unserved = by_test (is_among this (serves fs)) (λ e. absurd (not_itself turn this (all_later (λ k. comes_before turn k this ≡ true) (serves fs) this all_before e))) (λ e. e)
 
   -- it has no data that may go, or was stopped before any did
-  pub served_skip : ((l : Lane) → slot lanes this ≡ Some l → IsStopped flights b this l) → AreServed lanes flights b turn (n + 1) fs
+  pub served_skip : ((l : SendStream) → slot lanes this ≡ Some l → IsStopped flights b this l) → AreServed lanes flights b turn (n + 1) fs
   served_skip here = record {
     goes = a.goes;
     each = a.each;
@@ -148,10 +148,10 @@ module _ (lanes : Slots Lane) (flights : List Flight) (b : Bounds) (turn n : ℕ
     ];
   }
 
-  pub served_push : (l : Lane) (o c : ℕ) (gs : List code.Flown) → slot lanes this ≡ Some l → this < 65 → IsReady flights (left_beside lanes flights b fs) this l o c → gs ≡ fs ++ held.Data this o c ∷ [] → AreServed lanes flights b turn (n + 1) gs
+  pub served_push : (l : SendStream) (o c : ℕ) (gs : List code.SentFrame) → slot lanes this ≡ Some l → this < 65 → IsReady flights (left_beside lanes flights b fs) this l o c → gs ≡ fs ++ held.Data this o c ∷ [] → AreServed lanes flights b turn (n + 1) gs
   served_push l o c gs at own ready is =
       let serves_are : serves (fs ++ held.Data this o c ∷ []) ≡ serves fs ++ this ∷ [] = serves_with fs (held.Data this o c ∷ []) in
-      subst (λ (hs : List code.Flown). AreServed lanes flights b turn (n + 1) hs) (sym is) (record {
+      subst (λ (hs : List code.SentFrame). AreServed lanes flights b turn (n + 1) hs) (sym is) (record {
         goes = λ m limits. next_push lanes flights m limits b fs this o c a.each (a.goes m limits) (record { lane = l; is_open = at; is_own = own; ready = ready }) unserved;
         each = every_with IsData fs (held.Data this o c ∷ []) a.each (tt, tt);
         placed = subst (λ ks. AllByRecursion (IsPlaced (start_of turn) (n + 1)) ks) (sym serves_are)
@@ -171,7 +171,7 @@ module _ (lanes : Slots Lane) (flights : List Flight) (b : Bounds) (turn n : ℕ
       })
 
 -- what is left of the bounds after one more frame
-pub left_push : (lanes : Slots Lane) (flights : List Flight) (b at new : Bounds) (k o c end : ℕ) (l : Lane) (fs gs : List code.Flown) → at ≡ left_beside lanes flights b fs → slot lanes k ≡ Some l → end ≡ max l.out.acked_end (flying_end k flights) → new ≡ left_by at (c + 32) (o + c - end) → gs ≡ fs ++ held.Data k o c ∷ []
+pub left_push : (lanes : Slots SendStream) (flights : List Flight) (b at new : Bounds) (k o c end : ℕ) (l : SendStream) (fs gs : List code.SentFrame) → at ≡ left_beside lanes flights b fs → slot lanes k ≡ Some l → end ≡ max l.out.acked_end (flying_end k flights) → new ≡ left_by at (c + 32) (o + c - end) → gs ≡ fs ++ held.Data k o c ∷ []
     → ◌≡◌ {A = Bounds} new (left_beside lanes flights b gs)
 left_push lanes flights b at new k o c end l fs gs at_is open_here end_is new_is is =
     let end_same : end ≡ end_at lanes flights k = end_is ∙ sym (ap (λ y. end_in flights k y) open_here) in
@@ -182,14 +182,14 @@ left_push lanes flights b at new k o c end l fs gs at_is open_here end_is new_is
 
 -- ---- no stream has two frames of them
 
-all_apart : (k o : ℕ) (xs : ℕ → List ℕ) (fs : List code.Flown) → AllByRecursion IsData fs → is_among k (serves fs) ≡ false → AllByRecursion (λ g. same_due (StreamData k o (xs k)) g ≡ false) (framed xs fs)
+all_apart : (k o : ℕ) (xs : ℕ → List ℕ) (fs : List code.SentFrame) → AllByRecursion IsData fs → is_among k (serves fs) ≡ false → AllByRecursion (λ g. same_due (StreamData k o (xs k)) g ≡ false) (framed xs fs)
 all_apart k o xs [] d e = tt
 all_apart k o xs (held.Data j p n ∷ fs) d e = let w = or_false (nat_eq k j) (is_among k (serves fs)) e in
     (ap (λ t. t && nat_lt o (p + length (xs j)) && nat_lt p (o + length (xs k))) w.0, all_apart k o xs fs d.1 w.1)
 all_apart k o xs (held.Close j by ∷ fs) d e = absurd d.0
 all_apart k o xs (held.Notice n ∷ fs) d e = absurd d.0
 
-pub data_distinct : (lanes : Slots Lane) (flights : List Flight) (m : Marks) (limits : List Known) (b : Bounds) (fs : List code.Flown) → AllByRecursion IsData fs → AreNext lanes flights m limits b fs → AreDistinct fs
+pub data_distinct : (lanes : Slots SendStream) (flights : List Flight) (m : Marks) (limits : List Known) (b : Bounds) (fs : List code.SentFrame) → AllByRecursion IsData fs → AreNext lanes flights m limits b fs → AreDistinct fs
 data_distinct lanes flights m limits b [] d a xs = tt
 data_distinct lanes flights m limits b (held.Data k o c ∷ fs) d a xs = (all_apart k o xs fs d.1 a.1, data_distinct lanes flights m limits (left_by b (c + 32) (o + c - end_at lanes flights k)) fs d.1 a.2 xs)
 data_distinct lanes flights m limits b (held.Close k by ∷ fs) d a xs = absurd d.0
@@ -198,16 +198,16 @@ data_distinct lanes flights m limits b (held.Notice n ∷ fs) d a xs = absurd d.
 -- ---- a whole round
 
 -- a stream that is served, or was stopped before any data went
-pub all_or_stopped : (lanes : Slots Lane) (flights : List Flight) (b : Bounds) (turn : ℕ) (fs : List code.Flown) → AreServed lanes flights b turn 65 fs → (m : ℕ) (l : Lane) → m < 65 → slot lanes m ≡ Some l → (is_among m (serves fs) ≡ true) ⊎ IsStopped flights b m l
+pub all_or_stopped : (lanes : Slots SendStream) (flights : List Flight) (b : Bounds) (turn : ℕ) (fs : List code.SentFrame) → AreServed lanes flights b turn 65 fs → (m : ℕ) (l : SendStream) → m < 65 → slot lanes m ≡ Some l → (is_among m (serves fs) ≡ true) ⊎ IsStopped flights b m l
 all_or_stopped lanes flights b turn fs a m l h e =
     let p = place_of turn m h in
     subst (λ i. slot lanes i ≡ Some l → (is_among i (serves fs) ≡ true) ⊎ IsStopped flights b i l) (sym p.2) (λ at. a.all p.0 l p.1 at) e
 
 -- if no data are sent, all streams are stopped
-none_among : (m : ℕ) (fs : List code.Flown) → fs ≡ [] → is_among m (serves fs) ≡ true → ⊥
-none_among m fs none e = absurd (let clash : true ≡ false = sym e ∙ ap (λ (gs : List code.Flown). is_among m (serves gs)) none in cc)
+none_among : (m : ℕ) (fs : List code.SentFrame) → fs ≡ [] → is_among m (serves fs) ≡ true → ⊥
+none_among m fs none e = absurd (let clash : true ≡ false = sym e ∙ ap (λ (gs : List code.SentFrame). is_among m (serves gs)) none in cc)
 
-pub none_served : (lanes : Slots Lane) (flights : List Flight) (b : Bounds) (turn : ℕ) (fs : List code.Flown) → fs ≡ [] → IsRoundOf lanes flights b turn fs → NoneReady lanes flights b 65
+pub none_served : (lanes : Slots SendStream) (flights : List Flight) (b : Bounds) (turn : ℕ) (fs : List code.SentFrame) → fs ≡ [] → IsRoundOf lanes flights b turn fs → NoneReady lanes flights b 65
 none_served lanes flights b turn fs none r k l h e = elim r.ends [
   | inl all ↦ elim (all_or_stopped lanes flights b turn fs (subst (λ i. AreServed lanes flights b turn i fs) all r.are) k l h e) [
     | inl here ↦ absurd (none_among k fs none here)
@@ -217,7 +217,7 @@ none_served lanes flights b turn fs none r k l h e = elim r.ends [
 ]
 
 -- one that comes before a stream that is served was served, or stopped
-pub before_served : (lanes : Slots Lane) (flights : List Flight) (b : Bounds) (turn : ℕ) (fs : List code.Flown) → IsRoundOf lanes flights b turn fs → (m k : ℕ) (l : Lane) → m < 65 → slot lanes m ≡ Some l → is_among k (serves fs) ≡ true → comes_before turn m k ≡ true
+pub before_served : (lanes : Slots SendStream) (flights : List Flight) (b : Bounds) (turn : ℕ) (fs : List code.SentFrame) → IsRoundOf lanes flights b turn fs → (m k : ℕ) (l : SendStream) → m < 65 → slot lanes m ≡ Some l → is_among k (serves fs) ≡ true → comes_before turn m k ≡ true
     → (is_among m (serves fs) ≡ true) ⊎ IsStopped flights b m l
 before_served lanes flights b turn fs r m k l h e among first =
     let p = place_of turn m h in

@@ -5,7 +5,7 @@ use Rattle.std.proofs.lemmas.Bool.{cases_eq}
 use Rattle.st_streams.specs.Slots.{Slots}
 use Rattle.st_sender.specs.Sending.{Flight}
 use Rattle.st_sender.specs.Allowed.{end_at, lane_ends}
-use Rattle.st_sender.specs.Lanes.{Lane}
+use Rattle.st_sender.specs.Lanes.{SendStream}
 
 fold_from : (a : ℕ) (xs : List ℕ) → fold ◌+◌ a xs ≡ a + sum xs
 fold_from a [] = omega arith
@@ -41,16 +41,16 @@ sum_with g h k first (suc n) l m e = elim (cases_eq k first) [
   | inr apart ↦ (let rest = sum_with g h k (first + 1) n (omega arith) (omega arith) e in let here = e first (omega arith) in omega (arith, rest, here, sum_more g first n, sum_more h first n))
 ]
 
-pub ends_none : (lanes : Slots Lane) (flights : List Flight) (n : ℕ) → lane_ends lanes flights n 0 ≡ 0
+pub ends_none : (lanes : Slots SendStream) (flights : List Flight) (n : ℕ) → lane_ends lanes flights n 0 ≡ 0
 unfolding lane_ends
 ends_none lanes flights n = refl
 
-ends_more : (lanes : Slots Lane) (flights : List Flight) (n m : ℕ) → lane_ends lanes flights n (suc m) ≡ end_at lanes flights n + lane_ends lanes flights (n + 1) m
+ends_more : (lanes : Slots SendStream) (flights : List Flight) (n m : ℕ) → lane_ends lanes flights n (suc m) ≡ end_at lanes flights n + lane_ends lanes flights (n + 1) m
 unfolding lane_ends
 ends_more lanes flights n m = sum_more (end_at lanes flights) n m
 
-pub ends_next : (lanes : Slots Lane) (flights : List Flight) (n : ℕ) → n < 65 → lane_ends lanes flights n (65 - n) ≡ end_at lanes flights n + lane_ends lanes flights (n + 1) (65 - (n + 1))
+pub ends_next : (lanes : Slots SendStream) (flights : List Flight) (n : ℕ) → n < 65 → lane_ends lanes flights n (65 - n) ≡ end_at lanes flights n + lane_ends lanes flights (n + 1) (65 - (n + 1))
 ends_next lanes flights n l = let e : 65 - n ≡ suc (65 - (n + 1)) = omega arith in ap (λ m. lane_ends lanes flights n m) e ∙ ends_more lanes flights n (65 - (n + 1))
 
-pub ends_done : (lanes : Slots Lane) (flights : List Flight) (n : ℕ) → 65 ≤ n → lane_ends lanes flights n (65 - n) ≡ 0
+pub ends_done : (lanes : Slots SendStream) (flights : List Flight) (n : ℕ) → 65 ≤ n → lane_ends lanes flights n (65 - n) ≡ 0
 ends_done lanes flights n l = let e : 65 - n ≡ 0 = omega arith in ap (λ m. lane_ends lanes flights n m) e ∙ ends_none lanes flights n

@@ -5,23 +5,23 @@ use Rattle.std.proofs.lemmas.Bool.Decides.{nat_tests}
 use Rattle.std.proofs.lemmas.List.{drop_all}
 use Rattle.std.proofs.Math.Seq.{drop-cons}
 use Rattle.st_streams.specs.Slots.{Slots, slot, no_slots}
-use Rattle.st_sender.specs.Lanes.{Lane, out_of, outs}
+use Rattle.st_sender.specs.Lanes.{SendStream, out_of, outs}
 use Rattle.st_sender.specs.Refusals.{accepted_of, offered_of, all_accepted, all_offered}
 
-accepted_slot : (lanes : Slots Lane) (k : ℕ) → accepted_of (out_of (slot lanes k)) ≤ all_accepted (outs lanes)
+accepted_slot : (lanes : Slots SendStream) (k : ℕ) → accepted_of (out_of (slot lanes k)) ≤ all_accepted (outs lanes)
 accepted_slot [] k = omega arith
 accepted_slot (x ∷ xs) zero = omega arith
 accepted_slot (x ∷ xs) (suc k) = omega (arith, accepted_slot xs k)
 
-offered_slot : (lanes : Slots Lane) (k : ℕ) → offered_of (out_of (slot lanes k)) ≤ all_offered (outs lanes)
+offered_slot : (lanes : Slots SendStream) (k : ℕ) → offered_of (out_of (slot lanes k)) ≤ all_offered (outs lanes)
 offered_slot [] k = omega arith
 offered_slot (x ∷ xs) zero = omega arith
 offered_slot (x ∷ xs) (suc k) = omega (arith, offered_slot xs k)
 
-pub accepted_within : (lanes : Slots Lane) (k : ℕ) (l : Lane) → slot lanes k ≡ Some l → l.out.accepted ≤ all_accepted (outs lanes)
+pub accepted_within : (lanes : Slots SendStream) (k : ℕ) (l : SendStream) → slot lanes k ≡ Some l → l.out.accepted ≤ all_accepted (outs lanes)
 accepted_within lanes k l e = omega (arith, accepted_slot lanes k, ap (λ o. accepted_of (out_of o)) e)
 
-pub offered_within : (lanes : Slots Lane) (k : ℕ) (l : Lane) → slot lanes k ≡ Some l → l.out.offered ≤ all_offered (outs lanes)
+pub offered_within : (lanes : Slots SendStream) (k : ℕ) (l : SendStream) → slot lanes k ≡ Some l → l.out.offered ≤ all_offered (outs lanes)
 offered_within lanes k l e = omega (arith, offered_slot lanes k, ap (λ o. offered_of (out_of o)) e)
 
 below : (a b : ℕ) → nat_le a b ≡ false → b < a
@@ -32,7 +32,7 @@ pub room_for : (all more part : ℕ) (t : Bool) → t ≡ nat_le (2 ^ 63) (all +
 room_for all more part t is less within = let h = below (2 ^ 63) (all + more) (sym is ∙ less) in omega arith
 
 -- a place that was read
-pub found_at : (xs : Slots Lane) (k : ℕ) (o : Option Lane) → k < length xs → o ≡ get_or xs k o → slot xs k ≡ o
+pub found_at : (xs : Slots SendStream) (k : ℕ) (o : Option SendStream) → k < length xs → o ≡ get_or xs k o → slot xs k ≡ o
 found_at [] k o h e = absurd (omega arith)
 found_at (x ∷ xs) zero o h e = sym e
 found_at (x ∷ xs) (suc k) o h e = found_at xs k o (omega arith) e
@@ -52,10 +52,10 @@ pub none_more : {X : Type 0} (xs all : Slots X) (n : ℕ) → xs ≡ replicate n
 none_more xs all n e pushed = pushed ∙ ap (λ ys. ys ++ None ∷ []) e ∙ replicate_push n None ∙ ap (λ (j : ℕ). replicate j None) (suc_is n)
 
 -- a total so far, with what is left, is the whole: over one place more, and at the end
-pub total_next : (all : Slots Lane → ℕ) (part : Option Lane → ℕ) → ((x : Option Lane) (xs : Slots Lane) → all (x ∷ xs) ≡ part x + all xs) → (seen lanes : Slots Lane) (total more i : ℕ) (d : Option Lane) → seen ≡ lanes
+pub total_next : (all : Slots SendStream → ℕ) (part : Option SendStream → ℕ) → ((x : Option SendStream) (xs : Slots SendStream) → all (x ∷ xs) ≡ part x + all xs) → (seen lanes : Slots SendStream) (total more i : ℕ) (d : Option SendStream) → seen ≡ lanes
     → i < length seen → more ≡ part (get_or seen i d) → total + all (drop i lanes) ≡ all lanes → total + more + all (drop (i + 1) lanes) ≡ all lanes
 total_next all part cons seen lanes total more i d same lt is e =
     omega (arith, is, e, ap (λ xs. part (get_or xs i d)) same, ap all (drop-cons lanes i d (subst (λ xs. i < length xs) same lt)), cons (get_or lanes i d) (drop (suc i) lanes), ap (λ (j : ℕ). all (drop j lanes)) (suc_is i))
 
-pub total_whole : (all : Slots Lane → ℕ) → all [] ≡ 0 → (seen lanes : Slots Lane) (total i : ℕ) → seen ≡ lanes → length seen ≤ i → total + all (drop i lanes) ≡ all lanes → total ≡ all lanes
+pub total_whole : (all : Slots SendStream → ℕ) → all [] ≡ 0 → (seen lanes : Slots SendStream) (total i : ℕ) → seen ≡ lanes → length seen ≤ i → total + all (drop i lanes) ≡ all lanes → total ≡ all lanes
 total_whole all none seen lanes total i same past e = omega (arith, e, none, ap all (drop_all i lanes (subst (λ xs. length xs ≤ i) same past)))

@@ -69,7 +69,7 @@ pub record IsDueMoneyBlocked (s : Sending) (k limit total : ℕ) : Type 0 where
   pub stream : Outgoing
   pub is_open : outgoing_at s k ≡ Some stream
   pub received : ℕ
-  pub told : stream.told_money ≡ Some (limit, received)
+  pub told : stream.advertised_money ≡ Some (limit, received)
   pub total_is : total ≡ stream.fulfilled
   pub alone : s.flights ≡ []
   pub first : was_blocked stream.blocked_money limit ≡ false

@@ -32,7 +32,7 @@ money_room (Some told) flying due = min due (told.0 - told.1 - flying)
 
 abbrev pub free_money : Sending → ℕ → Option Outgoing → ℕ
 free_money s k None = 0
-free_money s k (Some x) = money_room x.told_money (flying_money s k) (due_money s k x)
+free_money s k (Some x) = money_room x.advertised_money (flying_money s k) (due_money s k x)
 
 abbrev pub all_free_money : Sending → ℕ
 all_free_money s = sum (map (λ k. free_money s k (outgoing_at s k)) (range_with_len 0 65))

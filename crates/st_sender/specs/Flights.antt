@@ -7,10 +7,10 @@ use Rattle.std.specs.FinMap.{get}
 use Rattle.st_oer.specs.Ratios.{Ratio, exchanged}
 use Rattle.st_frames.specs.Frames.{Known, ConnectionMaxData, StreamClose, StreamMaxMoney, StreamData, StreamMaxData}
 use Rattle.st_frames.specs.Told.{money_of}
-use Rattle.st_sender.specs.Sending.{Outgoing, Load, Flown, Data, Whole, Flight, Sending, outgoing_at}
+use Rattle.st_sender.specs.Sending.{Outgoing, Load, SentFrame, Data, Whole, Flight, Sending, outgoing_at}
 
 -- a frame once it is in flight, and a packet
-abbrev pub flown : Known → Flown
+abbrev pub flown : Known → SentFrame
 flown (StreamData stream offset xs) = Data stream offset (length xs)
 flown f = Whole f
 
@@ -27,11 +27,11 @@ without_flight [] n = []
 without_flight (p ∷ ps) n = if nat_eq p.sequence n then ps else p ∷ without_flight ps n
 
 -- a frame of some flight passes a test
-abbrev pub any_frame : (Flown → Bool) → List Flight → Bool
+abbrev pub any_frame : (SentFrame → Bool) → List Flight → Bool
 any_frame passes ps = list_any (λ (p : Flight). list_any passes p.frames) ps
 
 -- a frame that carries the byte of an offset
-abbrev pub carries : (stream offset : ℕ) → Flown → Bool
+abbrev pub carries : (stream offset : ℕ) → SentFrame → Bool
 carries k at (Data stream offset count) = nat_eq stream k && nat_le offset at && nat_lt at (offset + count)
 carries k at (Whole f) = false
 
@@ -40,7 +40,7 @@ abbrev pub is_close : (stream code : ℕ) → Known → Bool
 is_close k c (StreamClose stream code message) = nat_eq stream k && nat_eq code c
 is_close k c f = false
 
-abbrev pub closes : (stream code : ℕ) → Flown → Bool
+abbrev pub closes : (stream code : ℕ) → SentFrame → Bool
 closes k c (Data stream offset count) = false
 closes k c (Whole f) = is_close k c f
 
@@ -51,7 +51,7 @@ same_limit (StreamMaxData k m) (StreamMaxData l n) = nat_eq k l
 same_limit (StreamMaxMoney k m t) (StreamMaxMoney l n u) = nat_eq k l
 same_limit f g = false
 
-abbrev pub tells : Known → Flown → Bool
+abbrev pub tells : Known → SentFrame → Bool
 tells f (Data stream offset count) = false
 tells f (Whole g) = same_limit f g
 
@@ -60,11 +60,11 @@ abbrev pub due_at : Sending → ℕ → Outgoing → ℕ → Option ℕ
 due_at s k x o = if any_frame (carries k o) s.flights then None else get x.unacked o
 
 -- the highest end of a stream's data
-abbrev pub end_of : ℕ → Flown → ℕ
+abbrev pub end_of : ℕ → SentFrame → ℕ
 end_of k (Data stream offset count) = if nat_eq stream k then offset + count else 0
 end_of k (Whole f) = 0
 
-abbrev pub highest_end : ℕ → List Flown → ℕ
+abbrev pub highest_end : ℕ → List SentFrame → ℕ
 highest_end k [] = 0
 highest_end k (f ∷ fs) = max (end_of k f) (highest_end k fs)
 
@@ -78,11 +78,11 @@ sent_end s k None = 0
 sent_end s k (Some x) = max x.acked_end (flying_end k s.flights)
 
 -- the sum of these ends over the streams, once these frames fly too
-unfoldable pub all_ends : Sending → List Flown → ℕ
+unfoldable pub all_ends : Sending → List SentFrame → ℕ
 all_ends s fs = sum (map (λ k. max (sent_end s k (outgoing_at s k)) (highest_end k fs)) (range_with_len 0 65))
 
 -- money of a stream that flies: a stream's shares are its part of the amount
-abbrev pub money_flown : ℕ → Flown → ℕ
+abbrev pub money_flown : ℕ → SentFrame → ℕ
 money_flown k (Data stream offset count) = 0
 money_flown k (Whole f) = money_of k f
 

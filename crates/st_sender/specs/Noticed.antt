@@ -10,10 +10,10 @@ use Rattle.st_frames.specs.Frames.{Known, ConnectionMaxData, ConnectionDataBlock
 use Rattle.st_frames.specs.Written.{packet_length}
 use Rattle.st_sender.specs.declared.bounds.Bounds.{Bounds}
 use Rattle.st_sender.specs.declared.notice.Notice.{Notice}
-use Rattle.st_sender.specs.Sending.{Data, Whole, Flown, Flight, Load, Marks, Sending}
+use Rattle.st_sender.specs.Sending.{Data, Whole, SentFrame, Flight, Load, Marks, Sending}
 use Rattle.st_sender.specs.Flights.{any_frame, tells, flying_end, all_ends, room_for}
 use Rattle.st_sender.specs.Answering.{mark_after, marks_after, higher}
-use Rattle.st_sender.specs.Lanes.{Lane, due_in}
+use Rattle.st_sender.specs.Lanes.{SendStream, due_in}
 use Rattle.st_sender.specs.Due.{was_blocked, IsDue}
 use Rattle.st_sender.specs.Filling.{is_work}
 use Rattle.st_sender.specs.Paying.{open_money}
@@ -26,56 +26,56 @@ IsShort b f = packet_length b.sequence 0 (f ∷ []) ≤ b.room
 -- ---- Blocked frames
 
 -- bytes of a stream wait beyond its limit
-pub record IsDataBlocked (b : Bounds) (k : ℕ) (l : Lane) (limit : ℕ) : Type 0 where
+pub record IsDataBlocked (b : Bounds) (k : ℕ) (l : SendStream) (limit : ℕ) : Type 0 where
   pub told : limit ≡ l.out.told
   pub first : was_blocked l.out.blocked limit ≡ false
   pub waits : (o byte : ℕ) × (due_in l o ≡ Some byte) × (limit ≤ o)
   pub short : IsShort b (StreamDataBlocked k limit)
 
 -- money of a stream waits beyond the peer's receive max
-pub record IsMoneyBlocked (r : Ratio) (flights : List Flight) (b : Bounds) (k : ℕ) (l : Lane) (limit total : ℕ) : Type 0 where
+pub record IsMoneyBlocked (r : Ratio) (flights : List Flight) (b : Bounds) (k : ℕ) (l : SendStream) (limit total : ℕ) : Type 0 where
   pub received : ℕ
-  pub told : l.out.told_money ≡ Some (limit, received)
+  pub told : l.out.advertised_money ≡ Some (limit, received)
   pub total_is : total ≡ l.out.fulfilled
   pub first : was_blocked l.out.blocked_money limit ≡ false
   pub waits : limit - received < room_for r (open_money flights k l.out)
   pub short : IsShort b (StreamMoneyBlocked k limit total)
 
 -- a Blocked of a stream goes
-abbrev pub IsBlocked : List Flight → Ratio → Bounds → (k : ℕ) → Lane → Known → Type 0
+abbrev pub IsBlocked : List Flight → Ratio → Bounds → (k : ℕ) → SendStream → Known → Type 0
 IsBlocked flights r b k l (StreamDataBlocked j limit) = (j ≡ k) × IsDataBlocked b k l limit
 IsBlocked flights r b k l (StreamMoneyBlocked j limit total) = (j ≡ k) × IsMoneyBlocked r flights b k l limit total
 IsBlocked flights r b k l f = ⊥
 
-pub record IsBlockedAt (lanes : Slots Lane) (flights : List Flight) (r : Ratio) (b : Bounds) (f : Known) : Type 0 where
+pub record IsBlockedAt (lanes : Slots SendStream) (flights : List Flight) (r : Ratio) (b : Bounds) (f : Known) : Type 0 where
   pub stream : ℕ
-  pub lane : Lane
+  pub lane : SendStream
   pub is_open : slot lanes stream ≡ Some lane
   pub is_own : stream < 65
   pub blocked : IsBlocked flights r b stream lane f
 
-abbrev pub NoneBlocked : Slots Lane → List Flight → Ratio → Bounds → (count : ℕ) → Type 0
-NoneBlocked lanes flights r b count = (k : ℕ) (l : Lane) → k < count → slot lanes k ≡ Some l → (f : Known) → ¬ IsBlocked flights r b k l f
+abbrev pub NoneBlocked : Slots SendStream → List Flight → Ratio → Bounds → (count : ℕ) → Type 0
+NoneBlocked lanes flights r b count = (k : ℕ) (l : SendStream) → k < count → slot lanes k ≡ Some l → (f : Known) → ¬ IsBlocked flights r b k l f
 
 -- bytes of a stream wait beyond how far the sum of the streams' ends may rise
-abbrev pub IsHeld : List Flight → (spare k : ℕ) → Lane → Type 0
+abbrev pub IsHeld : List Flight → (spare k : ℕ) → SendStream → Type 0
 IsHeld flights spare k l = (o byte : ℕ) × (due_in l o ≡ Some byte) × (max l.out.acked_end (flying_end k flights) + spare ≤ o)
 
-abbrev pub NotHeld : List Flight → (spare k : ℕ) → Lane → Type 0
+abbrev pub NotHeld : List Flight → (spare k : ℕ) → SendStream → Type 0
 NotHeld flights spare k l = (o byte : ℕ) → due_in l o ≡ Some byte → o < max l.out.acked_end (flying_end k flights) + spare
 
-pub record IsHeldAt (lanes : Slots Lane) (flights : List Flight) (spare : ℕ) : Type 0 where
+pub record IsHeldAt (lanes : Slots SendStream) (flights : List Flight) (spare : ℕ) : Type 0 where
   pub stream : ℕ
-  pub lane : Lane
+  pub lane : SendStream
   pub is_open : slot lanes stream ≡ Some lane
   pub is_own : stream < 65
   pub held : IsHeld flights spare stream lane
 
-abbrev pub NoneHeld : Slots Lane → List Flight → (spare count : ℕ) → Type 0
-NoneHeld lanes flights spare count = (k : ℕ) (l : Lane) → k < count → slot lanes k ≡ Some l → NotHeld flights spare k l
+abbrev pub NoneHeld : Slots SendStream → List Flight → (spare count : ℕ) → Type 0
+NoneHeld lanes flights spare count = (k : ℕ) (l : SendStream) → k < count → slot lanes k ≡ Some l → NotHeld flights spare k l
 
 -- the connection's Blocked goes
-pub record IsConnectionBlocked (lanes : Slots Lane) (flights : List Flight) (told : ℕ) (highest : Option ℕ) (b : Bounds) : Type 0 where
+pub record IsConnectionBlocked (lanes : Slots SendStream) (flights : List Flight) (told : ℕ) (highest : Option ℕ) (b : Bounds) : Type 0 where
   pub first : was_blocked highest told ≡ false
   pub waits : IsHeldAt lanes flights b.spare
   pub short : IsShort b (ConnectionDataBlocked told)
@@ -122,11 +122,11 @@ marks_acked m (StreamMaxData k value) = record m { offsets = marks_after m.offse
 marks_acked m (StreamMaxMoney k value total) = record m { money = marks_after m.money k value }
 marks_acked m f = m
 
-abbrev pub marks_flown : Marks → Flown → Marks
+abbrev pub marks_flown : Marks → SentFrame → Marks
 marks_flown m (Data k o n) = m
 marks_flown m (Whole f) = marks_acked m f
 
-abbrev pub all_marks_flown : Marks → List Flown → Marks
+abbrev pub all_marks_flown : Marks → List SentFrame → Marks
 all_marks_flown m [] = m
 all_marks_flown m (f ∷ fs) = all_marks_flown (marks_flown m f) fs
 
@@ -135,11 +135,11 @@ abbrev pub highest_acked : Option ℕ → Known → Option ℕ
 highest_acked highest (ConnectionDataBlocked limit) = higher highest limit
 highest_acked highest f = highest
 
-abbrev pub highest_flown : Option ℕ → Flown → Option ℕ
+abbrev pub highest_flown : Option ℕ → SentFrame → Option ℕ
 highest_flown highest (Data k o n) = highest
 highest_flown highest (Whole f) = highest_acked highest f
 
-abbrev pub all_highest_flown : Option ℕ → List Flown → Option ℕ
+abbrev pub all_highest_flown : Option ℕ → List SentFrame → Option ℕ
 all_highest_flown highest [] = highest
 all_highest_flown highest (f ∷ fs) = all_highest_flown (highest_flown highest f) fs
 

@@ -8,7 +8,7 @@ use Rattle.st_streams.specs.Slots.{Slots, slot}
 use Rattle.st_sender.specs.declared.load.Payment.{Payment}
 use Rattle.st_sender.specs.Sending.{Outgoing, Flight}
 use Rattle.st_sender.specs.Flights.{part_of}
-use Rattle.st_sender.specs.Lanes.{Lane, out_of}
+use Rattle.st_sender.specs.Lanes.{SendStream, out_of}
 use Rattle.st_sender.specs.Refusals.{offered_of}
 
 -- all money of some payments, and a stream's part of it
@@ -42,28 +42,28 @@ abbrev pub allowed_money : Ratio → Option (ℕ × ℕ) → (flying due : ℕ) 
 allowed_money r None flying due = due
 allowed_money r (Some told) flying due = min (most_for r (told.0 - told.1 - flying)) due
 
-abbrev pub payable : Ratio → List Flight → ℕ → Option Lane → ℕ
+abbrev pub payable : Ratio → List Flight → ℕ → Option SendStream → ℕ
 payable r ps k None = 0
-payable r ps k (Some l) = allowed_money r l.out.told_money (flown_least r k ps) (open_money ps k l.out)
+payable r ps k (Some l) = allowed_money r l.out.advertised_money (flown_least r k ps) (open_money ps k l.out)
 
-abbrev pub payable_at : Slots Lane → Ratio → List Flight → ℕ → ℕ
+abbrev pub payable_at : Slots SendStream → Ratio → List Flight → ℕ → ℕ
 payable_at lanes r ps k = payable r ps k (slot lanes k)
 
-abbrev pub all_payable : Slots Lane → Ratio → List Flight → (count : ℕ) → ℕ
+abbrev pub all_payable : Slots SendStream → Ratio → List Flight → (count : ℕ) → ℕ
 all_payable lanes r ps count = sum (map (payable_at lanes r ps) (range_with_len 0 count))
 
-pub record IsPayment (lanes : Slots Lane) (r : Ratio) (ps : List Flight) (p : Payment) : Type 0 where
+pub record IsPayment (lanes : Slots SendStream) (r : Ratio) (ps : List Flight) (p : Payment) : Type 0 where
   pub some : 0 < p.amount
   pub due : p.amount ≤ payable_at lanes r ps p.stream
 
 -- money that is due and may go
-pub record AreDue (lanes : Slots Lane) (r : Ratio) (ps : List Flight) (limit : ℕ) (ms : List Payment) : Type 0 where
+pub record AreDue (lanes : Slots SendStream) (r : Ratio) (ps : List Flight) (limit : ℕ) (ms : List Payment) : Type 0 where
   pub each : AllByRecursion (IsPayment lanes r ps) ms
   pub own : (k : ℕ) → paid_to k ms ≤ payable_at lanes r ps k
   pub within : total ms ≤ limit
 
 -- money of the first streams, as much as may go, up to a limit. A payment makes a packet at most 34 bytes longer
-pub record Pays (lanes : Slots Lane) (r : Ratio) (ps : List Flight) (limit room count : ℕ) (ms : List Payment) : Type 0 where
+pub record Pays (lanes : Slots SendStream) (r : Ratio) (ps : List Flight) (limit room count : ℕ) (ms : List Payment) : Type 0 where
   pub each : AllByRecursion (IsPayment lanes r ps) ms
   pub own : (k : ℕ) → paid_to k ms ≤ payable_at lanes r ps k
   pub later : (k : ℕ) → count ≤ k → paid_to k ms ≡ 0
@@ -77,12 +77,12 @@ abbrev pub fulfilled_of : Option Outgoing → ℕ
 fulfilled_of None = 0
 fulfilled_of (Some x) = x.fulfilled
 
-abbrev pub fulfilled_in : Option Lane → ℕ
+abbrev pub fulfilled_in : Option SendStream → ℕ
 fulfilled_in o = fulfilled_of (out_of o)
 
-abbrev pub offered_in : Option Lane → ℕ
+abbrev pub offered_in : Option SendStream → ℕ
 offered_in o = offered_of (out_of o)
 
 -- no stream has more money in flight than it was offered and is not fulfilled
-abbrev pub AreFunded : Slots Lane → List Flight → Type 0
+abbrev pub AreFunded : Slots SendStream → List Flight → Type 0
 AreFunded lanes ps = (k : ℕ) → fulfilled_in (slot lanes k) + flown_money k ps ≤ offered_in (slot lanes k)

@@ -19,7 +19,7 @@ pub record KeepsTo (r : Ratio) (left amount : ℕ) : Type 0 where
   pub beyond : amount * r.num < (left + 1) * r.den
 
 abbrev pub EachKeepsTo : Type 0
-EachKeepsTo = (s : Sending) (room k : ℕ) (x : Outgoing) (p : Load) (receive_max received : ℕ) → IsRatio s.config.least → Fits s room p → outgoing_at s k ≡ Some x → x.told_money ≡ Some (receive_max, received)
+EachKeepsTo = (s : Sending) (room k : ℕ) (x : Outgoing) (p : Load) (receive_max received : ℕ) → IsRatio s.config.least → Fits s room p → outgoing_at s k ≡ Some x → x.advertised_money ≡ Some (receive_max, received)
     → KeepsTo s.config.least (left_of s k receive_max received) (money_in k p.frames)
 
 -- a packet that was sent under an advertised receive max of at most `most`, when what counts of the packets before it
@@ -32,7 +32,7 @@ pub record WentTo (r : Ratio) (most k counted : ℕ) (a : Sent) : Type 0 where
   pub is_open : outgoing_at a.before k ≡ Some stream
   pub receive_max : ℕ
   pub received : ℕ
-  pub told : stream.told_money ≡ Some (receive_max, received)
+  pub told : stream.advertised_money ≡ Some (receive_max, received)
   pub within : receive_max ≤ most
   pub known : counted ≤ received + flying_least a.before k
 

@@ -6,7 +6,7 @@ use Rattle.std.specs.declared.option.Option.TheVariants.{None, Some}
 use Rattle.st_frames.specs.Frames.{Known, ConnectionDataBlocked, StreamMoneyBlocked, StreamDataBlocked}
 use Rattle.st_sender.specs.declared.notice.Blocked.{Blocked}
 use Rattle.st_sender.specs.declared.notice.Blocked.TheVariants as limits
-use Rattle.st_sender.specs.Sending.{Flown, Data, Whole, Flight}
+use Rattle.st_sender.specs.Sending.{SentFrame, Data, Whole, Flight}
 use Rattle.st_sender.specs.Flights.{flight_at}
 
 -- what a frame says of a limit of the peer
@@ -16,12 +16,12 @@ stops_at (StreamDataBlocked k limit) = Some (limits.Data k limit)
 stops_at (StreamMoneyBlocked k limit total) = Some (limits.Money k limit total)
 stops_at f = None
 
-abbrev pub flown_stops_at : Flown → Option Blocked
+abbrev pub flown_stops_at : SentFrame → Option Blocked
 flown_stops_at (Data k offset count) = None
 flown_stops_at (Whole f) = stops_at f
 
 -- the first that some frames say
-abbrev pub all_stop_at : List Flown → Option Blocked
+abbrev pub all_stop_at : List SentFrame → Option Blocked
 all_stop_at [] = None
 all_stop_at (f ∷ fs) = option_or (flown_stops_at f) (all_stop_at fs)
 

@@ -5,16 +5,16 @@ ghost use Rattle.st_sender.specs.Flights.{end_of, highest_end, flying_end};
 ghost use Rattle.st_sender.specs.Shown.{shown, kept};
 ghost use Rattle.st_sender.specs.InFlight.{AreSmall, IsRaised};
 
-use crate::load::{Flight, Flown, flights_end};
+use crate::load::{Flight, SentFrame, flights_end};
 use std::alloc::Allocator;
 use std::marker::Model;
 
 /// Raises the place of a frame's stream to the end of its data.
-fn raise(ends: &mut [u128; 65], frame: Flown)
+fn raise(ends: &mut [u128; 65], frame: SentFrame)
     ensures raised { IsRaised ends.old ends.new (λ k. end_of k (shown frame)) }
     ensures small { AreSmall ends.old → AreSmall ends.new }
 {
-    if let Flown::Data { stream, .. } = frame {
+    if let SentFrame::Data { stream, .. } = frame {
         if stream < 65 {
             let place = stream as usize;
             ends[place] = ends[place].max(frame.end(stream));
@@ -23,7 +23,7 @@ fn raise(ends: &mut [u128; 65], frame: Flown)
 }
 
 /// Raises the place of each stream to the highest end of its data in these frames.
-fn raise_all(ends: &mut [u128; 65], frames: &[Flown])
+fn raise_all(ends: &mut [u128; 65], frames: &[SentFrame])
     ensures raised { IsRaised ends.old ends.new (λ k. highest_end k (kept frames.now)) }
     ensures small { AreSmall ends.old → AreSmall ends.new }
 {

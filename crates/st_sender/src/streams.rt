@@ -3,7 +3,7 @@
 ghost use Rattle.std.specs.Prelude.{true, false, ◌≡◌, ◌≢◌, ℕ, ◌+◌, ◌<◌, ◌≤◌, ◌^◌, None, Some, length, nat_le, slice_set, ◌-◌, OnOk, OnErr, IfOk};
 ghost use Rattle.st_streams.specs.Slots.{slot, with_slot, no_slots};
 ghost use Rattle.st_sender.specs.Accepting.{after_write, after_clean, after_stream_abort, after_offer};
-ghost use Rattle.st_sender.specs.Answering.{told_data, told_receive_max, is_settled};
+ghost use Rattle.st_sender.specs.Answering.{told_data, advertised_receive_max, is_settled};
 ghost use Rattle.st_sender.specs.Lanes.{changed_lane, on_out, out_of, outs, new_lane};
 ghost use Rattle.st_sender.specs.Refusals.{refusal_at, is_closed, is_aborted, no_more, full, too_much, Answers, AnswersOrWants, accepted_of, offered_of};
 ghost use Rattle.st_sender.specs.Refusals as specs;
@@ -291,7 +291,7 @@ pub fn raise_money<A: Allocator + Copy>(
     receive_max: u64,
     total: u64,
 )
-    ensures { streams.new.items ≡ changed_lane streams.old.items stream (on_out (told_receive_max receive_max total)) }
+    ensures { streams.new.items ≡ changed_lane streams.old.items stream (on_out (advertised_receive_max receive_max total)) }
 {
     if stream < streams.len() as u64 {
         if let Some(found) = &mut streams[stream as usize] {

@@ -30,10 +30,10 @@ use Rattle.st_end.specs.Sending.{open_flight}
 use Rattle.st_receiver.specs.Reasons.{f99}
 use Rattle.st_end.specs.Receiving.{Verdict, Unread, Rejects, Fulfills, verdict, verdict_on, opened_as, judged_as, is_own_condition, prepare_or_none, prepare_in, fulfilled, reply_payload, received_as, answer_for}
 use Rattle.st_world_parts.specs.Sides.{Side}
-use Rattle.st_world_parts.specs.State.{World, Node, Put, Given, lane_at, with_put, with_given, end_at, nth, with_node, with_hop_entry, Place, AtEnd, AtHop, far, near, next_link, prev_link, account_from}
+use Rattle.st_world_parts.specs.State.{World, Node, SentPrepare, SentAnswer, direction_at, with_prepare, with_answer, end_at, nth, with_node, with_hop_entry, Place, AtEnd, AtHop, far, near, next_link, prev_link, account_from}
 use Rattle.st_world_parts.specs.Events.{Told}
-use Rattle.st_world_parts.specs.Ends.{end_entry, given_by, taken_if, flight_of, BackAtEnd}
-use Rattle.st_world_parts.specs.Hops.{put_on, Comes, ArrivesAtHop, settled_entry, BackAtTicket, BackAtHop, reject_entry}
+use Rattle.st_world_parts.specs.Ends.{end_entry, answer_to, taken_if, flight_of, BackAtEnd}
+use Rattle.st_world_parts.specs.Hops.{prepare_of_ticket, Comes, ArrivesAtHop, settled_entry, BackAtTicket, BackAtHop, reject_entry}
 use Rattle.st_world.specs.Steps.{ArrivesAt, Arrives, BackAt, Back, AnswerBack}
 use Rattle.st_world.proofs.Spellings.{IsSpelled, spelled_at, spelled_reads, goes_on, reject_fails, fulfill_is, opened_long}
 use Rattle.st_world.proofs.Moves.{Came, Move, Replied, Settles, accepted, by_answer, by_fault, forwards, lands, move_at, refuses, rejected, replies, risen, settles, stays}
@@ -145,38 +145,38 @@ arrival_at h way bytes now (Ok p) is spelled from = let x = spelled_reads bytes 
 arrival_is : (h : Hop) (way : Side) (bytes : List ℕ) (now : ℤ) → IsSpelled bytes → pos 0 ≤ℤ now → let x = arrived h (account_from way) bytes now in ArrivalIs h way bytes x.0 x.1
 arrival_is h way bytes now spelled from = arrival_at h way bytes now (prepare_at bytes) refl spelled from
 
-comes_move : (w : World) (link : ℕ) (way : Side) (which : ℕ) (p : Put) (i : ℕ) (n : Node) (x : Arrival) (h : Hop) (t : Told) (after : World) (now : ℤ) → (arrived n.state (account_from way) p.bytes now).1 ≡ h → nth (lane_at w link way).puts which ≡ Some p → far w link way ≡ AtHop i → slice_get w.nodes i ≡ Some n
+comes_move : (w : World) (link : ℕ) (way : Side) (which : ℕ) (p : SentPrepare) (i : ℕ) (n : Node) (x : Arrival) (h : Hop) (t : Told) (after : World) (now : ℤ) → (arrived n.state (account_from way) p.bytes now).1 ≡ h → nth (direction_at w link way).prepares which ≡ Some p → far w link way ≡ AtHop i → slice_get w.nodes i ≡ Some n
     → ArrivalIs n.state way p.bytes x h → Comes w link way which p i n x h t after → Move w after
 unfolding ArrivalIs
 comes_move w link way which p i n (Answers answer) h t after now came is place here x c =
-    let P : Hop → Type 0 = λ y. Move w (with_given (with_hop_entry w i n y (reject_entry (account_from way) p.bytes)) link way (given_by which answer)) in
+    let P : Hop → Type 0 = λ y. Move w (with_answer (with_hop_entry w i n y (reject_entry (account_from way) p.bytes)) link way (answer_to which answer)) in
     move_at w _ after c.1 (subst P (sym x.1) (refuses link way which p i n answer is place here x.0))
 comes_move w link way which p i n (Forwards ticket outgoing bytes) h t after now came is place here x c =
-    let P : Hop → Type 0 = λ y. Move w (with_put (with_node w i (record { state = y; bag = n.bag })) (next_link link way) way (put_on ticket bytes which)) in
+    let P : Hop → Type 0 = λ y. Move w (with_prepare (with_node w i (record { state = y; answered = n.answered })) (next_link link way) way (prepare_of_ticket ticket bytes which)) in
     move_at w _ after c.2 (subst P (sym x.7) (forwards link way which p i n ticket bytes is place here x.0 x.1 (x.2 ∙ c.0) x.3 x.4 x.5 x.6 now (came ∙ x.7)))
 
 -- all that was put is spelled
 abbrev pub AllSpelled : World → Type 0
-AllSpelled w = (link : ℕ) (way : Side) (j : ℕ) (p : Put) → slice_get (lane_at w link way).puts j ≡ Some p → IsSpelled p.bytes
+AllSpelled w = (link : ℕ) (way : Side) (j : ℕ) (p : SentPrepare) → slice_get (direction_at w link way).prepares j ≡ Some p → IsSpelled p.bytes
 
-pub nth_spelled : (w : World) (link : ℕ) (way : Side) (k : ℕ) (p : Put) → AllSpelled w → nth (lane_at w link way).puts k ≡ Some p → IsSpelled p.bytes
+pub nth_spelled : (w : World) (link : ℕ) (way : Side) (k : ℕ) (p : SentPrepare) → AllSpelled w → nth (direction_at w link way).prepares k ≡ Some p → IsSpelled p.bytes
 nth_spelled w link way zero p h e = absurd (cc)
 nth_spelled w link way (suc k) p h e = h link way k p e
 
-hop_move : (w : World) (link : ℕ) (way : Side) (which : ℕ) (p : Put) (now : ℤ) (i : ℕ) (o : Option Node) (t : Told) (after : World) → AllSpelled w → pos 0 ≤ℤ now → nth (lane_at w link way).puts which ≡ Some p → far w link way ≡ AtHop i → slice_get w.nodes i ≡ o
+hop_move : (w : World) (link : ℕ) (way : Side) (which : ℕ) (p : SentPrepare) (now : ℤ) (i : ℕ) (o : Option Node) (t : Told) (after : World) → AllSpelled w → pos 0 ≤ℤ now → nth (direction_at w link way).prepares which ≡ Some p → far w link way ≡ AtHop i → slice_get w.nodes i ≡ o
     → ArrivesAtHop w link way which p now i o t after → Move w after
 hop_move w link way which p now i None t after all from is place here h = move_at w w after h.1 stays
 hop_move w link way which p now i (Some n) t after all from is place here h =
     let x = arrived n.state (account_from way) p.bytes now in
     comes_move w link way which p i n x.0 x.1 t after now refl is place here (arrival_is n.state way p.bytes now (nth_spelled w link way which p all is) from) h
 
-arrives_at : (w : World) (link : ℕ) (way : Side) (which : ℕ) (now : ℤ) (p : Put) (place : Place) (t : Told) (after : World) → AllSpelled w → pos 0 ≤ℤ now → nth (lane_at w link way).puts which ≡ Some p → far w link way ≡ place
+arrives_at : (w : World) (link : ℕ) (way : Side) (which : ℕ) (now : ℤ) (p : SentPrepare) (place : Place) (t : Told) (after : World) → AllSpelled w → pos 0 ≤ℤ now → nth (direction_at w link way).prepares which ≡ Some p → far w link way ≡ place
     → ArrivesAt w link way which now p place t after → Move w after
 unfolding AnswersAs
 arrives_at w link way which now p (AtEnd a) t after all from is place h = move_at w _ after h.1 (replies link way which p a _ _ _ is place (received_is (end_at w a) p.bytes now))
 arrives_at w link way which now p (AtHop i) t after all from is place h = hop_move w link way which p now i (slice_get w.nodes i) t after all from is place refl h
 
-pub arrives_move : (w : World) (link : ℕ) (way : Side) (which : ℕ) (now : ℤ) (o : Option Put) (t : Told) (after : World) → AllSpelled w → pos 0 ≤ℤ now → nth (lane_at w link way).puts which ≡ o → Arrives w link way which now o t after → Move w after
+pub arrives_move : (w : World) (link : ℕ) (way : Side) (which : ℕ) (now : ℤ) (o : Option SentPrepare) (t : Told) (after : World) → AllSpelled w → pos 0 ≤ℤ now → nth (direction_at w link way).prepares which ≡ o → Arrives w link way which now o t after → Move w after
 arrives_move w link way which now None t after all from is h = move_at w w after h.1 stays
 arrives_move w link way which now (Some p) t after all from is h = arrives_at w link way which now p (far w link way) t after all from is refl h
 
@@ -185,7 +185,7 @@ open_cond : (b : Bool) (x : Option Flight) (p : Flight) → cond b x None ≡ So
 open_cond true x p e = e
 open_cond false x p e = absurd (cc)
 
-back_end : (w : World) (link : ℕ) (way : Side) (j : ℕ) (p : Put) (o : Option (List ℕ)) (a : Side) (load : Option Flight) (t : Told) (after : World) → Came w link way j p o → near w link way ≡ AtEnd a
+back_end : (w : World) (link : ℕ) (way : Side) (j : ℕ) (p : SentPrepare) (o : Option (List ℕ)) (a : Side) (load : Option Flight) (t : Told) (after : World) → Came w link way j p o → near w link way ≡ AtEnd a
     → open_flight (end_at w a) (flight_of p) ≡ load → BackAtEnd w link way j p o a load t after → Move w after
 back_end w link way j p o a None t after came place is h = move_at w w after h.1 stays
 back_end w link way j p o a (Some load) t after came place is h = move_at w _ after h.1 (lands link way j p o a load came place (open_cond _ (flight_at (end_at w a).sending.flights p.name) load is))
@@ -228,33 +228,33 @@ booked_is : (h : Hop) (t : Open) (o : Option (List ℕ)) (now : ℤ) → is_book
 booked_is h t None now = refused_books h t None _
 booked_is h t (Some bytes) now = answer_books h t bytes now (answer_at bytes) refl
 
-back_ticket : (w : World) (link : ℕ) (way : Side) (j : ℕ) (p : Put) (o : Option (List ℕ)) (now : ℤ) (i : ℕ) (n : Node) (ticket : Option Open) (t : Told) (after : World) → Came w link way j p o → near w link way ≡ AtHop i → slice_get w.nodes i ≡ Some n
+back_ticket : (w : World) (link : ℕ) (way : Side) (j : ℕ) (p : SentPrepare) (o : Option (List ℕ)) (now : ℤ) (i : ℕ) (n : Node) (ticket : Option Open) (t : Told) (after : World) → Came w link way j p o → near w link way ≡ AtHop i → slice_get w.nodes i ≡ Some n
     → ticket_at n.state.tickets p.name ≡ ticket → BackAtTicket w link way j p o now i n ticket t after → Move w after
 back_ticket w link way j p o now i n None t after came place here is h = move_at w w after h.1 stays
 back_ticket w link way j p o now i n (Some ticket) t after came place here is h =
     let r = settled n.state ticket o now in
-    let M : Bool → Type 0 = λ b. Move w (with_given (taken_if b (with_hop_entry w i n r.1 (settled_entry ticket b)) link way j) (prev_link link way) way (given_by p.cause r.0)) in
+    let M : Bool → Type 0 = λ b. Move w (with_answer (taken_if b (with_hop_entry w i n r.1 (settled_entry ticket b)) link way j) (prev_link link way) way (answer_to p.cause r.0)) in
     move_at w _ after h.1 (subst M (sym (booked_is n.state ticket o now)) (settles link way j p o i n ticket r.0 r.1 came place here is (settles_is n.state ticket o now)))
 
-back_hop : (w : World) (link : ℕ) (way : Side) (j : ℕ) (p : Put) (o : Option (List ℕ)) (now : ℤ) (i : ℕ) (n : Option Node) (t : Told) (after : World) → Came w link way j p o → near w link way ≡ AtHop i → slice_get w.nodes i ≡ n
+back_hop : (w : World) (link : ℕ) (way : Side) (j : ℕ) (p : SentPrepare) (o : Option (List ℕ)) (now : ℤ) (i : ℕ) (n : Option Node) (t : Told) (after : World) → Came w link way j p o → near w link way ≡ AtHop i → slice_get w.nodes i ≡ n
     → BackAtHop w link way j p o now i n t after → Move w after
 back_hop w link way j p o now i None t after came place here h = move_at w w after h.1 stays
 back_hop w link way j p o now i (Some n) t after came place here h = back_ticket w link way j p o now i n (ticket_at n.state.tickets p.name) t after came place here refl h
 
-back_at : (w : World) (link : ℕ) (way : Side) (j : ℕ) (now : ℤ) (p : Put) (o : Option (List ℕ)) (place : Place) (t : Told) (after : World) → Came w link way j p o → near w link way ≡ place
+back_at : (w : World) (link : ℕ) (way : Side) (j : ℕ) (now : ℤ) (p : SentPrepare) (o : Option (List ℕ)) (place : Place) (t : Told) (after : World) → Came w link way j p o → near w link way ≡ place
     → BackAt w link way j now p o place t after → Move w after
 back_at w link way j now p o (AtEnd a) t after came is h = back_end w link way j p o a _ t after came is refl h
 back_at w link way j now p o (AtHop i) t after came is h = back_hop w link way j p o now i (slice_get w.nodes i) t after came is refl h
 
-pub fault_move : (w : World) (link : ℕ) (way : Side) (which : ℕ) (now : ℤ) (p : Option Put) (t : Told) (after : World) → nth (lane_at w link way).puts which ≡ p → Back w link way 0 now None p t after → Move w after
+pub fault_move : (w : World) (link : ℕ) (way : Side) (which : ℕ) (now : ℤ) (p : Option SentPrepare) (t : Told) (after : World) → nth (direction_at w link way).prepares which ≡ p → Back w link way 0 now None p t after → Move w after
 fault_move w link way which now None t after is h = move_at w w after h.1 stays
 fault_move w link way which now (Some p) t after is h = back_at w link way 0 now p None (near w link way) t after (by_fault 0 which p is) refl h
 
-reply_move : (w : World) (link : ℕ) (way : Side) (j : ℕ) (now : ℤ) (g : Given) (p : Option Put) (t : Told) (after : World) → nth (lane_at w link way).given j ≡ Some g → nth (lane_at w link way).puts g.which ≡ p
+reply_move : (w : World) (link : ℕ) (way : Side) (j : ℕ) (now : ℤ) (g : SentAnswer) (p : Option SentPrepare) (t : Told) (after : World) → nth (direction_at w link way).given j ≡ Some g → nth (direction_at w link way).prepares g.which ≡ p
     → Back w link way j now (Some g.bytes) p t after → Move w after
 reply_move w link way j now g None t after here is h = move_at w w after h.1 stays
 reply_move w link way j now g (Some p) t after here is h = back_at w link way j now p (Some g.bytes) (near w link way) t after (by_answer j g p here is) refl h
 
-pub answer_move : (w : World) (link : ℕ) (way : Side) (j : ℕ) (now : ℤ) (g : Option Given) (t : Told) (after : World) → nth (lane_at w link way).given j ≡ g → AnswerBack w link way j now g t after → Move w after
+pub answer_move : (w : World) (link : ℕ) (way : Side) (j : ℕ) (now : ℤ) (g : Option SentAnswer) (t : Told) (after : World) → nth (direction_at w link way).given j ≡ g → AnswerBack w link way j now g t after → Move w after
 answer_move w link way j now None t after is h = move_at w w after h.1 stays
-answer_move w link way j now (Some g) t after is h = reply_move w link way j now g (nth (lane_at w link way).puts g.which) t after is refl h
+answer_move w link way j now (Some g) t after is h = reply_move w link way j now g (nth (direction_at w link way).prepares g.which) t after is refl h

@@ -13,8 +13,8 @@ use Rattle.st_sender.specs.Refusals.{is_closed, no_more, full, too_much, all_acc
 use Rattle.st_end.specs.Calls.{wrapped_too, refusal_at, done, connection_refusal}
 use Rattle.st_receiver.specs.Reading.{Got, Bytes, Nothing, End, Aborted, is_read, got_bytes, got_by, after_got_by, after_get}
 use Rattle.st_world_parts.specs.Sides.{Side, Client, Server, other}
-use Rattle.st_world_parts.specs.State.{World, end_at, with_end, ledger_at, with_ledger}
-use Rattle.st_world_parts.specs.Ledgers.{cleanly_closed, given_up, Ledger, written, got}
+use Rattle.st_world_parts.specs.State.{World, end_at, with_end, log_at, with_ledger}
+use Rattle.st_world_parts.specs.StreamLogs.{cleanly_closed, given_up, StreamLog, written, got}
 use Rattle.st_world_parts.specs.Ends.{accepted_at, read_at}
 use Rattle.st_receiver.specs.Reading as reading
 use Rattle.st_sender.specs.declared.error.OutboxError.TheVariants as outbox
@@ -36,7 +36,7 @@ same_end w Server = refl
 refused_move : (w : World) (a : Side) → Move w (with_end w a (end_at w a))
 refused_move w a = move_at w w (with_end w a (end_at w a)) (same_end w a) stays
 
-call_move : (w : World) (a : Side) (k : ℕ) (x y : Outgoing) (l : Ledger) (o : Option EndError) → outgoing_at (end_at w a).sending k ≡ Some x → (o ≡ None → (is_some x.abort ≡ false) × Accepts x (ledger_at w a k) y l)
+call_move : (w : World) (a : Side) (k : ℕ) (x y : Outgoing) (l : StreamLog) (o : Option EndError) → outgoing_at (end_at w a).sending k ≡ Some x → (o ≡ None → (is_some x.abort ≡ false) × Accepts x (log_at w a k) y l)
     → let r = done (end_at w a) o (with_outgoing (end_at w a).sending k y) in Move w (accepted_at r.0 (with_end w a r.1) a k l)
 call_move w a k x y l (Some n) is h = refused_move w a
 call_move w a k x y l None is h = accepts a k x y l is (h refl).0 (h refl).1
@@ -50,35 +50,35 @@ live : (x : Outgoing) (o : Option OutboxError) → cond (is_closed x) (Some outb
 live x o r = or_false _ _ (if_none _ _ _ r).0
 
 pub write_move : (w : World) (a : Side) (k : ℕ) (xs : List ℕ) (y : Option Outgoing) → outgoing_at (end_at w a).sending k ≡ y
-    → let r = done (end_at w a) (refusal_at (end_at w a) y (sender.refusal_at y is_closed (full (all_accepted (end_at w a).sending.streams) (length xs)))) (changed_at (end_at w a).sending k (after_write xs) y) in Move w (accepted_at r.0 (with_end w a r.1) a k (written xs (ledger_at w a k)))
+    → let r = done (end_at w a) (refusal_at (end_at w a) y (sender.refusal_at y is_closed (full (all_accepted (end_at w a).sending.streams) (length xs)))) (changed_at (end_at w a).sending k (after_write xs) y) in Move w (accepted_at r.0 (with_end w a r.1) a k (written xs (log_at w a k)))
 write_move w a k xs None is = refused_move w a
 write_move w a k xs (Some x) is =
     let own = sender.refusal_at (Some x) is_closed (full (all_accepted (end_at w a).sending.streams) (length xs)) in
-    call_move w a k x (after_write xs x) (written xs (ledger_at w a k)) (refusal_at (end_at w a) (Some x) own) is
+    call_move w a k x (after_write xs x) (written xs (log_at w a k)) (refusal_at (end_at w a) (Some x) own) is
     (λ e. let f = live x _ (passes (end_at w a) x own e) in (f.0, wrote xs f.1))
 
 pub close_move : (w : World) (a : Side) (k : ℕ) (y : Option Outgoing) → outgoing_at (end_at w a).sending k ≡ y
-    → let r = done (end_at w a) (refusal_at (end_at w a) y (sender.refusal_at y is_closed no_more)) (changed_at (end_at w a).sending k after_clean y) in Move w (accepted_at r.0 (with_end w a r.1) a k (cleanly_closed (ledger_at w a k)))
+    → let r = done (end_at w a) (refusal_at (end_at w a) y (sender.refusal_at y is_closed no_more)) (changed_at (end_at w a).sending k after_clean y) in Move w (accepted_at r.0 (with_end w a r.1) a k (cleanly_closed (log_at w a k)))
 close_move w a k None is = refused_move w a
 close_move w a k (Some x) is =
     let own = sender.refusal_at (Some x) is_closed no_more in
-    call_move w a k x (after_clean x) (cleanly_closed (ledger_at w a k)) (refusal_at (end_at w a) (Some x) own) is
+    call_move w a k x (after_clean x) (cleanly_closed (log_at w a k)) (refusal_at (end_at w a) (Some x) own) is
     (λ e. let f = live x _ (passes (end_at w a) x own e) in (f.0, closed_clean f.1))
 
 pub abort_move : (w : World) (a : Side) (k code : ℕ) (y : Option Outgoing) → code ≢ 1 → outgoing_at (end_at w a).sending k ≡ y
-    → let r = done (end_at w a) (refusal_at (end_at w a) y (sender.refusal_at y is_aborted no_more)) (changed_at (end_at w a).sending k (after_stream_abort code) y) in Move w (accepted_at r.0 (with_end w a r.1) a k (given_up (ledger_at w a k)))
+    → let r = done (end_at w a) (refusal_at (end_at w a) y (sender.refusal_at y is_aborted no_more)) (changed_at (end_at w a).sending k (after_stream_abort code) y) in Move w (accepted_at r.0 (with_end w a r.1) a k (given_up (log_at w a k)))
 abort_move w a k code None ne is = refused_move w a
 abort_move w a k code (Some x) ne is =
     let own = sender.refusal_at (Some x) is_aborted no_more in
-    call_move w a k x (after_stream_abort code x) (given_up (ledger_at w a k)) (refusal_at (end_at w a) (Some x) own) is
+    call_move w a k x (after_stream_abort code x) (given_up (log_at w a k)) (refusal_at (end_at w a) (Some x) own) is
     (λ e. ((if_none _ _ _ (passes (end_at w a) x own e)).0, gave_up code ne))
 
 pub offer_move : (w : World) (a : Side) (k n : ℕ) (y : Option Outgoing) → outgoing_at (end_at w a).sending k ≡ y
-    → let r = done (end_at w a) (refusal_at (end_at w a) y (sender.refusal_at y is_closed (too_much (all_offered (end_at w a).sending.streams) n))) (changed_at (end_at w a).sending k (after_offer n) y) in Move w (accepted_at r.0 (with_end w a r.1) a k (ledger_at w a k))
+    → let r = done (end_at w a) (refusal_at (end_at w a) y (sender.refusal_at y is_closed (too_much (all_offered (end_at w a).sending.streams) n))) (changed_at (end_at w a).sending k (after_offer n) y) in Move w (accepted_at r.0 (with_end w a r.1) a k (log_at w a k))
 offer_move w a k n None is = refused_move w a
 offer_move w a k n (Some x) is =
     let own = sender.refusal_at (Some x) is_closed (too_much (all_offered (end_at w a).sending.streams) n) in
-    call_move w a k x (after_offer n x) (ledger_at w a k) (refusal_at (end_at w a) (Some x) own) is
+    call_move w a k x (after_offer n x) (log_at w a k) (refusal_at (end_at w a) (Some x) own) is
     (λ e. let f = live x _ (passes (end_at w a) x own e) in (f.0, offered n))
 
 -- reads
@@ -100,7 +100,7 @@ unread w a k x is = ap (λ ss. with_end w a (record (end_at w a) { receiving = r
 tells_move : (w : World) (a : Side) (k : ℕ) (x : Incoming) (g : Got) → slot (end_at w a).receiving.streams k ≡ Some x → Tells x g
     → Move w (read_at (Ok g) (with_end w a (record (end_at w a) { receiving = with_incoming (end_at w a).receiving k x })) (other a) k)
 tells_move w a k x g is t =
-    let R : World → Type 0 = λ v. Move w (with_ledger v (other a) k (got g (ledger_at v (other a) k))) in
+    let R : World → Type 0 = λ v. Move w (with_ledger v (other a) k (got g (log_at v (other a) k))) in
     subst R (sym (unread w a k x is)) (tells a k x g is t)
 
 run_move : (w : World) (a : Side) (k n : ℕ) (x : Incoming) (t : List ℕ) → slot (end_at w a).receiving.streams k ≡ Some x → x.held.aborted ≡ None → take n (run x.held) ≡ t

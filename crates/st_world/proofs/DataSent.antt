@@ -7,7 +7,7 @@ use Rattle.std.proofs.lemmas.Option.{slice_get_within}
 use Rattle.st_frames.specs.Frames.{Known, ConnectionClose, ConnectionNewAddress, ConnectionMaxData, ConnectionDataBlocked, StreamClose, StreamMoney, StreamMaxMoney, StreamMoneyBlocked, StreamData, StreamMaxData, StreamDataBlocked}
 use Rattle.st_reassembly.specs.Held.{Held, after_read}
 use Rattle.st_reassembly.specs.Run.{IsRun}
-use Rattle.st_sender.specs.Sending.{Sending, Outgoing, Flown, Data, Whole, outgoing_at, with_outgoing, changed_at, changed}
+use Rattle.st_sender.specs.Sending.{Sending, Outgoing, SentFrame, Data, Whole, outgoing_at, with_outgoing, changed_at, changed}
 use Rattle.st_streams.specs.Table.{put_bytes}
 use Rattle.st_sender.specs.Accepting.{after_write}
 use Rattle.st_sender.specs.Flights.{any_frame, carries}
@@ -59,11 +59,11 @@ whole_acked w s (StreamMaxMoney k n t) fine = fine
 whole_acked w s (ConnectionClose code message) fine = fine
 whole_acked w s (ConnectionNewAddress address) fine = fine
 
-acked : (w : ℕ → List ℕ) (s : Sending) (f : Flown) → SendFine w s → SendFine w (after_acked s f)
+acked : (w : ℕ → List ℕ) (s : Sending) (f : SentFrame) → SendFine w s → SendFine w (after_acked s f)
 acked w s (Data k o n) fine = send-changed w s k (acked_data o n) (λ x h. (h.0, λ q b e. h.1 q b (got_retain x.unacked _ q b e))) fine
 acked w s (Whole f) fine = whole_acked w s f fine
 
-pub send-acked : (w : ℕ → List ℕ) (fs : List Flown) (s : Sending) → SendFine w s → SendFine w (after_all_acked s fs)
+pub send-acked : (w : ℕ → List ℕ) (fs : List SentFrame) (s : Sending) → SendFine w s → SendFine w (after_all_acked s fs)
 send-acked w [] s fine = fine
 send-acked w (f ∷ fs) s fine = send-acked w fs (after_acked s f) (acked w s f fine)
 

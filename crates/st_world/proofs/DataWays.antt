@@ -13,8 +13,8 @@ use Rattle.st_receiver.specs.Streams.{Receiving, incoming_at, with_incoming}
 use Rattle.st_end.specs.State.{EndState}
 use Rattle.st_end.specs.Receiving.{prepare_in}
 use Rattle.st_world_parts.specs.Sides.{Side, Client, Server, other}
-use Rattle.st_world_parts.specs.State.{World, ledger_at, with_ledger, Put, lane_at, end_at, with_end}
-use Rattle.st_world_parts.specs.Ledgers.{Ledger, ledger_or}
+use Rattle.st_world_parts.specs.State.{World, log_at, with_ledger, SentPrepare, direction_at, end_at, with_end}
+use Rattle.st_world_parts.specs.StreamLogs.{StreamLog, ledger_or}
 use Rattle.st_world.proofs.Maps.{get_here, get_apart, Within, got_append}
 use Rattle.st_streams.proofs.SlotLemmas.{slot_here, slot_apart, slot_within}
 use Rattle.st_keys.specs.Keys.{DerivedKeys}
@@ -22,26 +22,26 @@ use Rattle.st_world.proofs.DataReceived.{StreamFine, RecvFine, recv-read, FrameF
 use Rattle.st_world.proofs.DataSent.{OutFine, SendFine, out-write, stream-write, stream-read}
 
 -- a Prepare whose payload carries what was written
-abbrev pub PutFine : DerivedKeys → (ℕ → List ℕ) → Put → Type 0
+abbrev pub PutFine : DerivedKeys → (ℕ → List ℕ) → SentPrepare → Type 0
 PutFine keys w p = (q : Packet) → opened keys 12 (prepare_in p.bytes).payload ≡ Ok q → FramesFine w (frames_of q)
 
-abbrev pub PutsFine : DerivedKeys → (ℕ → List ℕ) → List Put → Type 0
-PutsFine keys w ps = (i : ℕ) (p : Put) → slice_get ps i ≡ Some p → PutFine keys w p
+abbrev pub PutsFine : DerivedKeys → (ℕ → List ℕ) → List SentPrepare → Type 0
+PutsFine keys w ps = (i : ℕ) (p : SentPrepare) → slice_get ps i ≡ Some p → PutFine keys w p
 
 -- one direction: the writer's state, the reader's, and the lists of the links
-pub record WayFine (keys : DerivedKeys) (w r : ℕ → List ℕ) (s : Sending) (v : Receiving) (puts : ℕ → List Put) : Type 0 where
+pub record WayFine (keys : DerivedKeys) (w r : ℕ → List ℕ) (s : Sending) (v : Receiving) (prepares : ℕ → List SentPrepare) : Type 0 where
   pub send : SendFine w s
   pub recv : RecvFine w r v
-  pub lanes : (link : ℕ) → PutsFine keys w (puts link)
+  pub lanes : (link : ℕ) → PutsFine keys w (prepares link)
 
 abbrev pub written_of : World → Side → ℕ → List ℕ
-written_of w side k = (ledger_at w side k).written
+written_of w side k = (log_at w side k).written
 
 abbrev pub read_of : World → Side → ℕ → List ℕ
-read_of w side k = (ledger_at w side k).read
+read_of w side k = (log_at w side k).read
 
-abbrev pub puts_of : World → Side → ℕ → List Put
-puts_of w side link = (lane_at w link side).puts
+abbrev pub puts_of : World → Side → ℕ → List SentPrepare
+puts_of w side link = (direction_at w link side).prepares
 
 pub record DataFine (keys : DerivedKeys) (w : World) : Type 0 where
   pub own_keys : (side : Side) → (end_at w side).keys ≡ keys
@@ -71,7 +71,7 @@ frames_grow : (v w : ℕ → List ℕ) (fs : List Known) → Grows v w → Frame
 frames_grow v w [] grow fine = tt
 frames_grow v w (f ∷ fs) grow fine = (frame_grow v w f grow fine.0, frames_grow v w fs grow fine.1)
 
-pub puts_grow : (keys : DerivedKeys) (v w : ℕ → List ℕ) (ps : List Put) → Grows v w → PutsFine keys v ps → PutsFine keys w ps
+pub puts_grow : (keys : DerivedKeys) (v w : ℕ → List ℕ) (ps : List SentPrepare) → Grows v w → PutsFine keys v ps → PutsFine keys w ps
 puts_grow keys v w ps grow fine i p e q o = frames_grow v w (frames_of q) grow (fine i p e q o)
 
 same_grows : (v w : ℕ → List ℕ) → ((k : ℕ) → w k ≡ v k) → Grows v w
@@ -87,12 +87,12 @@ same_stream v w r u h e f fine = rw (e, f) fine
 same_recv : (v w r u : ℕ → List ℕ) (s : Receiving) → ((k : ℕ) → w k ≡ v k) → ((k : ℕ) → u k ≡ r k) → RecvFine v r s → RecvFine w u s
 same_recv v w r u s same alike fine k = same_stream (v k) (w k) (r k) (u k) (incoming_at s k).held (same k) (alike k) (fine k)
 
-pub same_way : (keys : DerivedKeys) (v w r u : ℕ → List ℕ) (s : Sending) (t : Receiving) (puts : ℕ → List Put) → ((k : ℕ) → w k ≡ v k) → ((k : ℕ) → u k ≡ r k)
-    → WayFine keys v r s t puts → WayFine keys w u s t puts
-same_way keys v w r u s t puts same alike fine = record {
+pub same_way : (keys : DerivedKeys) (v w r u : ℕ → List ℕ) (s : Sending) (t : Receiving) (prepares : ℕ → List SentPrepare) → ((k : ℕ) → w k ≡ v k) → ((k : ℕ) → u k ≡ r k)
+    → WayFine keys v r s t prepares → WayFine keys w u s t prepares
+same_way keys v w r u s t prepares same alike fine = record {
   send = same_send v w s same fine.send;
   recv = same_recv v w r u t same alike fine.recv;
-  lanes = λ link. puts_grow keys v w (puts link) (same_grows v w same) (fine.lanes link);
+  lanes = λ link. puts_grow keys v w (prepares link) (same_grows v w same) (fine.lanes link);
 }
 
 -- a write
@@ -119,13 +119,13 @@ write_send v w s k xs x is here apart fine j =
       | inr n ↦ (let R : List ℕ → Type 0 = λ l. OutFine l (outgoing_at s j) in let S : Option Outgoing → Type 0 = λ y. OutFine (w j) y in subst S (sym (slot_apart s.streams k (after_write xs x) j n)) (subst R (sym (apart j n)) (fine j)))
     ]
 
-pub write_way : (keys : DerivedKeys) (v w r u : ℕ → List ℕ) (s : Sending) (t : Receiving) (puts : ℕ → List Put) (k : ℕ) (xs : List ℕ) (x : Outgoing) → outgoing_at s k ≡ Some x
+pub write_way : (keys : DerivedKeys) (v w r u : ℕ → List ℕ) (s : Sending) (t : Receiving) (prepares : ℕ → List SentPrepare) (k : ℕ) (xs : List ℕ) (x : Outgoing) → outgoing_at s k ≡ Some x
     → w k ≡ v k ++ xs → ((j : ℕ) → j ≢ k → w j ≡ v j) → ((j : ℕ) → u j ≡ r j)
-    → WayFine keys v r s t puts → WayFine keys w u (with_outgoing s k (after_write xs x)) t puts
-write_way keys v w r u s t puts k xs x is here apart alike fine = record {
+    → WayFine keys v r s t prepares → WayFine keys w u (with_outgoing s k (after_write xs x)) t prepares
+write_way keys v w r u s t prepares k xs x is here apart alike fine = record {
   send = write_send v w s k xs x is here apart fine.send;
   recv = write_recv v w r u t k xs here apart alike fine.recv;
-  lanes = λ link. puts_grow keys v w (puts link) (write_grows v w k xs here apart) (fine.lanes link);
+  lanes = λ link. puts_grow keys v w (prepares link) (write_grows v w k xs here apart) (fine.lanes link);
 }
 
 -- a read of the run
@@ -171,27 +171,27 @@ pub moved : (keys : DerivedKeys) (w v : World) → v ≡ w → DataFine keys w �
 moved keys w v e h = let P : World → Type 0 = λ z. DataFine keys z in subst P (sym e) h
 
 -- the ledger of one stream
-pub ledger_here : (m : fmap.FinMap nat_cmp Ledger) (k : ℕ) (x : Ledger) → ledger_or (fmap.get (fmap.insert m k x) k) ≡ x
+pub ledger_here : (m : fmap.FinMap nat_cmp StreamLog) (k : ℕ) (x : StreamLog) → ledger_or (fmap.get (fmap.insert m k x) k) ≡ x
 ledger_here m k x = ap ledger_or (get_here m k x)
 
-pub ledger_apart : (m : fmap.FinMap nat_cmp Ledger) (k : ℕ) (x : Ledger) (j : ℕ) → j ≢ k → ledger_or (fmap.get (fmap.insert m k x) j) ≡ ledger_or (fmap.get m j)
+pub ledger_apart : (m : fmap.FinMap nat_cmp StreamLog) (k : ℕ) (x : StreamLog) (j : ℕ) → j ≢ k → ledger_or (fmap.get (fmap.insert m k x) j) ≡ ledger_or (fmap.get m j)
 ledger_apart m k x j n = ap ledger_or (get_apart m k x j n)
 
-pub ledger_same : (m : fmap.FinMap nat_cmp Ledger) (k : ℕ) (x : Ledger) (f : Ledger → List ℕ) → f x ≡ f (ledger_or (fmap.get m k)) → (j : ℕ) → f (ledger_or (fmap.get (fmap.insert m k x) j)) ≡ f (ledger_or (fmap.get m j))
+pub ledger_same : (m : fmap.FinMap nat_cmp StreamLog) (k : ℕ) (x : StreamLog) (f : StreamLog → List ℕ) → f x ≡ f (ledger_or (fmap.get m k)) → (j : ℕ) → f (ledger_or (fmap.get (fmap.insert m k x) j)) ≡ f (ledger_or (fmap.get m j))
 ledger_same m k x f e j =
     elim (cases_eq j k) [
       | inl p ↦ rw p (ap f (ledger_here m k x) ∙ e)
       | inr n ↦ ap f (ledger_apart m k x j n)
     ]
 
-abbrev pub written_in : Ledger → List ℕ
+abbrev pub written_in : StreamLog → List ℕ
 written_in x = x.written
 
-abbrev pub read_in : Ledger → List ℕ
+abbrev pub read_in : StreamLog → List ℕ
 read_in x = x.read
 
 -- a ledger whose lists stay
-pub with_ledger-fine : (keys : DerivedKeys) (w : World) (a : Side) (k : ℕ) (x : Ledger) → x.written ≡ (ledger_at w a k).written → x.read ≡ (ledger_at w a k).read → DataFine keys w → DataFine keys (with_ledger w a k x)
+pub with_ledger-fine : (keys : DerivedKeys) (w : World) (a : Side) (k : ℕ) (x : StreamLog) → x.written ≡ (log_at w a k).written → x.read ≡ (log_at w a k).read → DataFine keys w → DataFine keys (with_ledger w a k x)
 with_ledger-fine keys w Client k x same alike h = record {
   own_keys = h.own_keys;
   ways = by_side (λ side. WayFine keys (written_of (with_ledger w Client k x) side) (read_of (with_ledger w Client k x) side) (end_at w side).sending (end_at w (other side)).receiving (puts_of w side)) Client

@@ -7,7 +7,7 @@ use Rattle.st_frames.specs.Frames.{Known, ConnectionClose, ConnectionNewAddress,
 use Rattle.st_keys.specs.declared.error.KeyError.{KeyError}
 use Rattle.st_keys.specs.Keys.{fulfillment}
 use Rattle.st_keys.specs.Sealed.{opened}
-use Rattle.st_sender.specs.Sending.{Sending, Outgoing, Flight, new_outgoing, outgoing_at, with_outgoing, changed_at, Flown, Data, Whole}
+use Rattle.st_sender.specs.Sending.{Sending, Outgoing, Flight, new_outgoing, outgoing_at, with_outgoing, changed_at, SentFrame, Data, Whole}
 use Rattle.st_sender.specs.Flights.{without_flight}
 use Rattle.st_sender.specs.Answering.{after_acked, after_all_acked, landed, after_fulfilled, after_failed, Failure, Plain, after_told, after_all_told, after_whole_acked}
 use Rattle.st_receiver.specs.Streams.{with_receive_max, may_name}
@@ -18,7 +18,7 @@ use Rattle.st_end.specs.declared.error.EndError.TheVariants.{NoStream, Connectio
 use Rattle.st_end.specs.declared.flight.Open as flights
 use Rattle.st_end.specs.Answers.{raised, fits, failure_of, answered_by, after_outcome, pays, pays_by}
 use Rattle.st_end.specs.Receiving.{opened_too}
-use Rattle.st_world_parts.specs.State.{EndEntry}
+use Rattle.st_world_parts.specs.State.{AnsweredAtEnd}
 use Rattle.st_world.proofs.Moves.{Turns, opens, raises, Replied, rejected, risen, accepted}
 use Rattle.st_world.proofs.EndSteps.{opened_keeps, marked_keeps, opening_either}
 use Rattle.st_receiver.specs.Limits.{reply_frames}
@@ -56,11 +56,11 @@ whole_flies r s (StreamMaxMoney k n t) h = record { flights = h.flights; last = 
 whole_flies r s (ConnectionClose code message) h = h
 whole_flies r s (ConnectionNewAddress address) h = h
 
-acked_flies : (r s : Sending) (f : Flown) → Flies r s → Flies r (after_acked s f)
+acked_flies : (r s : Sending) (f : SentFrame) → Flies r s → Flies r (after_acked s f)
 acked_flies r s (Data k o n) h = changed_flies r s k _ (outgoing_at s k) h
 acked_flies r s (Whole f) h = whole_flies r s f h
 
-all_acked_flies : (r : Sending) (fs : List Flown) (s : Sending) → Flies r s → Flies r (after_all_acked s fs)
+all_acked_flies : (r : Sending) (fs : List SentFrame) (s : Sending) → Flies r s → Flies r (after_all_acked s fs)
 all_acked_flies r [] s h = h
 all_acked_flies r (f ∷ fs) s h = all_acked_flies r fs (after_acked s f) (acked_flies r s f h)
 
@@ -85,7 +85,7 @@ raised_flies : (r s : Sending) (n : ℕ) (q : Result Packet KeyError) → Flies 
 raised_flies r s n (Err e) h = h
 raised_flies r s n (Ok q) h = flies_cond r (nat_eq q.sequence n) (after_all_told s (frames_of q)) s (all_told_flies r (frames_of q) s h) h
 
-pub replied_flies : (e f : EndState) (bytes answer : List ℕ) (x : EndEntry) → Replied e bytes answer x f → Flies e.sending f.sending
+pub replied_flies : (e f : EndState) (bytes answer : List ℕ) (x : AnsweredAtEnd) → Replied e bytes answer x f → Flies e.sending f.sending
 replied_flies e f bytes answer x (rejected r y i j) = same_flies e.sending
 replied_flies e f bytes answer x (risen r y q i j) = all_told_flies e.sending (frames_of q) e.sending (same_flies e.sending)
 replied_flies e f bytes answer x (accepted r q v i o j z) =
@@ -139,7 +139,7 @@ pub outcome_lands : (e : EndState) (f : flights.Open) (p : Flight) (o : Option (
 outcome_lands e f p None = failed_lands e.sending p Plain
 outcome_lands e f p (Some bytes) = answer_lands e f p (answer_at bytes)
 
-pub replied_secret : (e f : EndState) (bytes answer : List ℕ) (x : EndEntry) → Replied e bytes answer x f → f.keys ≡ e.keys
+pub replied_secret : (e f : EndState) (bytes answer : List ℕ) (x : AnsweredAtEnd) → Replied e bytes answer x f → f.keys ≡ e.keys
 replied_secret e f bytes answer x (rejected r y i j) = refl
 replied_secret e f bytes answer x (risen r y q i j) = refl
 replied_secret e f bytes answer x (accepted r q v i o j z) = refl

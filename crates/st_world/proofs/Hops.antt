@@ -7,10 +7,10 @@ use Rattle.st_hop.specs.Refusals as hop
 use Rattle.st_hop.specs.Arriving.{Arrival}
 use Rattle.st_hop.specs.Settling.{settled, is_booked}
 use Rattle.st_world_parts.specs.Sides.{Side, Both}
-use Rattle.st_world_parts.specs.State.{World, Party, Node, Put, Given, Lane, AtHop, next_link, prev_link, with_given, with_hop_entry}
+use Rattle.st_world_parts.specs.State.{World, Party, Node, SentPrepare, SentAnswer, Direction, AtHop, next_link, prev_link, with_answer, with_hop_entry}
 use Rattle.st_world_parts.specs.Events.{Told, Replied, Went}
-use Rattle.st_world_parts.specs.Ends.{given_by}
-use Rattle.st_world_parts.specs.Hops.{Comes, ArrivesAtHop, answered_at_hop, put_on, settled_entry, BackAtTicket, BackAtHop}
+use Rattle.st_world_parts.specs.Ends.{answer_to}
+use Rattle.st_world_parts.specs.Hops.{Comes, ArrivesAtHop, answered_at_hop, prepare_of_ticket, settled_entry, BackAtTicket, BackAtHop}
 use Rattle.st_world.specs.Steps.{BackAt}
 use Rattle.st_world_parts.specs.Parts.{lane_in, with_lane_in, with_put_in, with_given_in, with_taken_in}
 use Rattle.st_world.specs.Places.{Links, HopsMet, HopsBack}
@@ -33,7 +33,7 @@ module _ (ends : Both Party) (ns : List Node) (lg : Both Led) (r : Bool) (t : Le
       ap (λ (x : Node). of_parts ends (set ns i x) ks lg b) em ∙ ap (λ (k : Links). of_parts ends (set ns i m') k lg b) ek ∙ ap (of_parts ends (set ns i m') ks' lg) eb
 
   -- a Prepare arrives
-  pub hop_meets : (link next which : ℕ) (bytes : List ℕ) (now : ℤ) (p : Put) (told : Told) (m : Node) (ks : Links) (b : Bool) → link ≢ next → next ≡ next_link link way → bytes ≡ p.bytes → HopsMet link next way which bytes now told n m ls ks → b ≡ (r || lacks told)
+  pub hop_meets : (link next which : ℕ) (bytes : List ℕ) (now : ℤ) (p : SentPrepare) (told : Told) (m : Node) (ks : Links) (b : Bool) → link ≢ next → next ≡ next_link link way → bytes ≡ p.bytes → HopsMet link next way which bytes now told n m ls ks → b ≡ (r || lacks told)
       → MeetsAt (in_world t ls) link way which now p (AtHop i) told (in_world (left ends (set ns i m) lg b) ks)
   hop_meets link next which bytes now p told m ks b apart at_next same met is =
       let after : World = of_parts ends (set ns i m) ks lg b in
@@ -54,8 +54,8 @@ module _ (ends : Both Party) (ns : List Node) (lg : Both Led) (r : Bool) (t : Le
             h.5,
             h.6,
             same_parts m _ ks _ b r h.7
-                (met'.3 ∙ ap (λ (v : Lane). with_lane_in (with_lane_in ls link way v) next way x) h.9 ∙ ap (λ (k : Links). with_lane_in k next way x) (lane_same ls link way) ∙ ap (with_lane_in ls next way) h.8
-                ∙ ap (λ (q : ℕ). with_lane_in ls q way (with_put_in (lane_in ls q way) (put_on h.0 h.2 which))) at_next)
+                (met'.3 ∙ ap (λ (v : Direction). with_lane_in (with_lane_in ls link way v) next way x) h.9 ∙ ap (λ (k : Links). with_lane_in k next way x) (lane_same ls link way) ∙ ap (with_lane_in ls next way) h.8
+                ∙ ap (λ (q : ℕ). with_lane_in ls q way (with_put_in (lane_in ls q way) (prepare_of_ticket h.0 h.2 which))) at_next)
                 (quiet r b told Went h.6 refl is),
           )))
           | inr h ↦ inr (
@@ -68,7 +68,7 @@ module _ (ends : Both Party) (ns : List Node) (lg : Both Led) (r : Bool) (t : Le
       ])
 
   -- an outcome arrives
-  pub back_hop_meets : (link prev j : ℕ) (now : ℤ) (z : Put) (outcome : Option (List ℕ)) (told : Told) (m : Node) (ks : Links) → link ≢ prev → prev ≡ prev_link link way → HopsBack link prev way z j outcome now told n m ls ks
+  pub back_hop_meets : (link prev j : ℕ) (now : ℤ) (z : SentPrepare) (outcome : Option (List ℕ)) (told : Told) (m : Node) (ks : Links) → link ≢ prev → prev ≡ prev_link link way → HopsBack link prev way z j outcome now told n m ls ks
       → BackAt (in_world t ls) link way j now z outcome (AtHop i) told (in_world (left ends (set ns i m) lg r) ks)
   back_hop_meets link prev j now z outcome told m ks apart at_prev met =
       let after : World = of_parts ends (set ns i m) ks lg r in
@@ -81,22 +81,22 @@ module _ (ends : Both Party) (ns : List Node) (lg : Both Led) (r : Bool) (t : Le
       subst S base (subst O (sym here) (elim met.2 [
         | inl h ↦ subst T (sym h.0) (
           h.1,
-          same_parts m n ks ls r r h.2 (met.3 ∙ ap (λ (v : Lane). with_lane_in (with_lane_in ls link way v) prev way x) h.3 ∙ ap (λ (k : Links). with_lane_in k prev way x) (lane_same ls link way) ∙ ap (with_lane_in ls prev way) h.4 ∙ lane_same ls prev way) refl
+          same_parts m n ks ls r r h.2 (met.3 ∙ ap (λ (v : Direction). with_lane_in (with_lane_in ls link way v) prev way x) h.3 ∙ ap (λ (k : Links). with_lane_in k prev way x) (lane_same ls link way) ∙ ap (with_lane_in ls prev way) h.4 ∙ lane_same ls prev way) refl
               ∙ ap (λ (ms : List Node). of_parts ends ms ls lg r) (set_here ns i n is_node),
         )
         | inr h ↦ (
             let booked = is_booked h.0 outcome now in
             let done = settled n.state h.0 outcome now in
-            let g : Given = given_by z.cause done.0 in
+            let g : SentAnswer = answer_to z.cause done.0 in
             let v = with_hop_entry w i n done.1 (settled_entry h.0 booked) in
-            let y' : Lane = with_taken_in booked (lane_in ls link way) j in
+            let y' : Direction = with_taken_in booked (lane_in ls link way) j in
             let ls' : Links = with_lane_in ls link way y' in
             subst T (sym h.1) (
               h.2,
               same_parts m _ ks (with_lane_in ls' prev way (with_given_in (lane_in ls' prev way) g)) r r h.3
-                  (met.3 ∙ ap (λ (u : Lane). with_lane_in (with_lane_in ls link way u) prev way x) h.4 ∙ ap (with_lane_in ls' prev way) h.5
-                  ∙ ap (λ (u : Lane). with_lane_in ls' prev way (with_given_in u g)) (sym (lane_apart ls link prev way way y' apart))) refl
-                  ∙ ap (λ (q : ℕ). with_given (record v { links = ls' }) q way g) at_prev
-                  ∙ ap (λ (u : World). with_given u (prev_link link way) way g) (taken_world booked v link way j),
+                  (met.3 ∙ ap (λ (u : Direction). with_lane_in (with_lane_in ls link way u) prev way x) h.4 ∙ ap (with_lane_in ls' prev way) h.5
+                  ∙ ap (λ (u : Direction). with_lane_in ls' prev way (with_given_in u g)) (sym (lane_apart ls link prev way way y' apart))) refl
+                  ∙ ap (λ (q : ℕ). with_answer (record v { links = ls' }) q way g) at_prev
+                  ∙ ap (λ (u : World). with_answer u (prev_link link way) way g) (taken_world booked v link way j),
             ))
       ]))

@@ -15,18 +15,18 @@ use Rattle.st_end.specs.Sending.{open_flight}
 use Rattle.st_end.specs.Answers.{ended_with, pays}
 use Rattle.st_end.specs.Receiving.{Verdict, Unread, Rejects, Fulfills, verdict, t00_text}
 use Rattle.st_world_parts.specs.Sides.{Side, Client, Server, other, Both, at, put}
-use Rattle.st_world_parts.specs.Ledgers.{Ledger, ledger_or, written, cleanly_closed, given_up}
-use Rattle.st_world_parts.specs.State.{World, Party, Node, Put, Lane, EndEntry, AtEnd, with_end, first_link}
+use Rattle.st_world_parts.specs.StreamLogs.{StreamLog, ledger_or, written, cleanly_closed, given_up}
+use Rattle.st_world_parts.specs.State.{World, Party, Node, SentPrepare, Direction, AnsweredAtEnd, AtEnd, with_end, first_link}
 use Rattle.st_world_parts.specs.Events.{Event, OpenStream, Write, Read, Close, Abort, Offer, ReceiveMax, Send, Told, Silent, Call, Took, Opened, Gave, Sent, Answered, NoMemory}
-use Rattle.st_world_parts.specs.Ends.{Calls, accepted_at, AbortsAt, read_at, put_by, given_by, refused_entry, answered_at_end, flight_of, BackAtEnd}
-use Rattle.st_world.specs.Steps.{Meets, noted, MayHaveRisen, BackAt}
+use Rattle.st_world_parts.specs.Ends.{Calls, accepted_at, AbortsAt, read_at, prepare_of_flight, answer_to, refused_entry, answered_at_end, flight_of, BackAtEnd}
+use Rattle.st_world.specs.Steps.{Meets, with_refusal, MayHaveRisen, BackAt}
 use Rattle.st_world_parts.specs.Parts.{CallMet, OpenMet, RaiseMet, ReadMet, kept_if, read_if, with_state, lane_in, with_lane_in, with_put_in, with_given_in, with_taken_in, with_answered}
 use Rattle.st_world.specs.Places.{Links, LinkSends, LinkMet, LinkBack}
 use Rattle.st_world.specs.Left.{Left, in_world, lacks, MeetsAt}
 use Rattle.st_world.proofs.LinkLists.{put_same, lane_same, taken_world}
 
 abbrev pub Led : Type 0
-Led = fmap.FinMap nat_cmp Ledger
+Led = fmap.FinMap nat_cmp StreamLog
 
 or_false : (b : Bool) → (b || false) ≡ b
 or_false true = refl
@@ -36,7 +36,7 @@ or_true : (b : Bool) → (b || true) ≡ true
 or_true true = refl
 or_true false = refl
 
--- what is noted after a call that found memory, and after one that did not
+-- what is with_refusal after a call that found memory, and after one that did not
 pub quiet : (r b : Bool) (told same : Told) → told ≡ same → lacks same ≡ false → b ≡ (r || lacks told) → b ≡ r
 quiet r b told same e l is = is ∙ ap (λ (t : Told). r || lacks t) e ∙ ap (λ (x : Bool). r || x) l ∙ or_false r
 
@@ -64,7 +64,7 @@ module _ (ends : Both Party) (ns : List Node) (lg : Both Led) (r : Bool) where
   same_end : (a : Side) (ls : Links) (q q' : Party) (b b' : Bool) → q ≡ q' → b ≡ b' → of_parts (put ends a q) ns ls lg b ≡ of_parts (put ends a q') ns ls lg b'
   same_end a ls q q' b b' eq eb = ap (λ (x : Party). of_parts (put ends a x) ns ls lg b) eq ∙ ap (of_parts (put ends a q') ns ls lg) eb
 
-  unchanged : (a c : Side) (ls : Links) (q : Party) (m : Led) (b : Bool) → q ≡ at ends a → m ≡ at lg c → b ≡ true → of_parts (put ends a q) ns ls (put lg c m) b ≡ noted (of_parts ends ns ls lg r)
+  unchanged : (a c : Side) (ls : Links) (q : Party) (m : Led) (b : Bool) → q ≡ at ends a → m ≡ at lg c → b ≡ true → of_parts (put ends a q) ns ls (put lg c m) b ≡ with_refusal (of_parts ends ns ls lg r)
   unchanged a c ls q m b eq em eb =
       same_parts a c ls q (at ends a) m (at lg c) b true eq em eb
       ∙ ap (λ (x : Both Party). of_parts x ns ls (put lg c (at lg c)) true) (put_same ends a) ∙ ap (λ (x : Both Led). of_parts ends ns ls x true) (put_same lg c)
@@ -72,13 +72,13 @@ module _ (ends : Both Party) (ns : List Node) (lg : Both Led) (r : Bool) where
   unchanged_end : (a : Side) (ls : Links) (q : Party) (b b' : Bool) → q ≡ at ends a → b ≡ b' → of_parts (put ends a q) ns ls lg b ≡ of_parts ends ns ls lg b'
   unchanged_end a ls q b b' eq eb = same_end a ls q (at ends a) b b' eq eb ∙ ap (λ (x : Both Party). of_parts x ns ls lg b') (put_same ends a)
 
-  accepted : (x : Answer) (a : Side) (ls : Links) (k : ℕ) (e : EndState) (l : Ledger) → of_parts (put ends a (with_state (at ends a) e)) ns ls (put lg a (kept_if x (at lg a) k l)) r ≡ accepted_at x (with_end (of_parts ends ns ls lg r) a e) a k l
+  accepted : (x : Answer) (a : Side) (ls : Links) (k : ℕ) (e : EndState) (l : StreamLog) → of_parts (put ends a (with_state (at ends a) e)) ns ls (put lg a (kept_if x (at lg a) k l)) r ≡ accepted_at x (with_end (of_parts ends ns ls lg r) a e) a k l
   accepted (Ok done) a ls k e l = refl
   accepted (Err why) a ls k e l = ap (λ (x : Both Led). of_parts (put ends a (with_state (at ends a) e)) ns ls x r) (put_same lg a)
 
   -- a call on a stream: its ledger is the one that this end writes
-  called : (a : Side) (ls : Links) (k : ℕ) (x : Answer × EndState) (l : Ledger) (told : Told) (q : Party) (m : Led) (b : Bool) → CallMet x k l told (at ends a) q (at lg a) m → b ≡ (r || lacks told)
-      → Calls (of_parts ends ns ls lg r) a k x l told (of_parts (put ends a q) ns ls (put lg a m) b) ⊎ ((told ≡ NoMemory) × (is_ok x.0 ≡ true) × (of_parts (put ends a q) ns ls (put lg a m) b ≡ noted (of_parts ends ns ls lg r)))
+  called : (a : Side) (ls : Links) (k : ℕ) (x : Answer × EndState) (l : StreamLog) (told : Told) (q : Party) (m : Led) (b : Bool) → CallMet x k l told (at ends a) q (at lg a) m → b ≡ (r || lacks told)
+      → Calls (of_parts ends ns ls lg r) a k x l told (of_parts (put ends a q) ns ls (put lg a m) b) ⊎ ((told ≡ NoMemory) × (is_ok x.0 ≡ true) × (of_parts (put ends a q) ns ls (put lg a m) b ≡ with_refusal (of_parts ends ns ls lg r)))
   called a ls k x l told q m b met is = elim met [
     | inl h ↦ inl (h.0, same_parts a a ls q _ m _ b r h.1 h.2 (quiet r b told (Call x.0) h.0 refl is) ∙ accepted x.0 a ls k x.1 l)
     | inr h ↦ inr (h.0, h.1, unchanged a a ls q m b h.2 h.3 (loud r b told h.0 is))
@@ -143,7 +143,7 @@ module _ (ends : Both Party) (ns : List Node) (lg : Both Led) (r : Bool) where
     same_links : (q q' : Party) (ks ks' : Links) (b b' : Bool) → q ≡ q' → ks ≡ ks' → b ≡ b' → of_parts (put ends a q) ns ks lg b ≡ of_parts (put ends a q') ns ks' lg b'
     same_links q q' ks ks' b b' eq ek eb = ap (λ (k : Links). of_parts (put ends a q) ns k lg b) ek ∙ same_end a ks' q q' b b' eq eb
 
-    back_to : (q : Party) (ks : Links) (b b' : Bool) (link : ℕ) (way : Side) (y : Lane) → q ≡ at ends a → ks ≡ with_lane_in ls link way y → y ≡ lane_in ls link way → b ≡ b' → of_parts (put ends a q) ns ks lg b ≡ of_parts ends ns ls lg b'
+    back_to : (q : Party) (ks : Links) (b b' : Bool) (link : ℕ) (way : Side) (y : Direction) → q ≡ at ends a → ks ≡ with_lane_in ls link way y → y ≡ lane_in ls link way → b ≡ b' → of_parts (put ends a q) ns ks lg b ≡ of_parts ends ns ls lg b'
     back_to q ks b b' link way y eq ek ey eb =
         same_links q (at ends a) ks ls b b' eq (ek ∙ ap (with_lane_in ls link way) ey ∙ lane_same ls link way) eb ∙ ap (λ (x : Both Party). of_parts x ns ls lg b') (put_same ends a)
 
@@ -160,8 +160,8 @@ module _ (ends : Both Party) (ns : List Node) (lg : Both Led) (r : Bool) where
               h.2,
               h.3,
               h.4,
-              same_links q (with_state (at ends a) h.2) ks (with_lane_in ls (first_link w a) a (with_put_in (lane_in ls (first_link w a) a) (put_by h.0 h.1))) b r h.5
-                  (met.2 ∙ ap (with_lane_in ls link a) h.6 ∙ ap (λ (l : ℕ). with_lane_in ls l a (with_put_in (lane_in ls l a) (put_by h.0 h.1))) at_first)
+              same_links q (with_state (at ends a) h.2) ks (with_lane_in ls (first_link w a) a (with_put_in (lane_in ls (first_link w a) a) (prepare_of_flight h.0 h.1))) b r h.5
+                  (met.2 ∙ ap (with_lane_in ls link a) h.6 ∙ ap (λ (l : ℕ). with_lane_in ls l a (with_put_in (lane_in ls l a) (prepare_of_flight h.0 h.1))) at_first)
                   (quiet r b told Sent h.4 refl is),
             ))
             | inr h ↦ inr (w, h.0, refl, back_to q ks b true link a met.0 h.1 met.2 h.2 (loud r b told h.0 is))
@@ -169,12 +169,12 @@ module _ (ends : Both Party) (ns : List Node) (lg : Both Led) (r : Bool) where
         ])
 
     -- a Prepare arrives at an end
-    answered : (c : Side) (link : ℕ) (way : Side) (which : ℕ) (e : EndState) (x : EndEntry) (bytes : List ℕ)
-        → of_parts (put ends c (with_answered (at ends c) e x)) ns (with_lane_in ls link way (with_given_in (lane_in ls link way) (given_by which bytes))) lg r ≡ answered_at_end w link way which c e x bytes
+    answered : (c : Side) (link : ℕ) (way : Side) (which : ℕ) (e : EndState) (x : AnsweredAtEnd) (bytes : List ℕ)
+        → of_parts (put ends c (with_answered (at ends c) e x)) ns (with_lane_in ls link way (with_given_in (lane_in ls link way) (answer_to which bytes))) lg r ≡ answered_at_end w link way which c e x bytes
     answered Client link way which e x bytes = refl
     answered Server link way which e x bytes = refl
 
-    pub end_meets : (link : ℕ) (way : Side) (which : ℕ) (bytes : List ℕ) (now : ℤ) (p : Put) (told : Told) (q : Party) (ks : Links) (b : Bool) → bytes ≡ p.bytes → LinkMet link way which bytes now told (at ends a) q ls ks → b ≡ (r || lacks told)
+    pub end_meets : (link : ℕ) (way : Side) (which : ℕ) (bytes : List ℕ) (now : ℤ) (p : SentPrepare) (told : Told) (q : Party) (ks : Links) (b : Bool) → bytes ≡ p.bytes → LinkMet link way which bytes now told (at ends a) q ls ks → b ≡ (r || lacks told)
         → MeetsAt (in_world t ls) link way which now p (AtEnd a) told (in_world (left (put ends a q) ns lg b) ks)
     end_meets link way which bytes now p told q ks b same met is =
         let after : World = of_parts (put ends a q) ns ks lg b in
@@ -186,19 +186,19 @@ module _ (ends : Both Party) (ns : List Node) (lg : Both Led) (r : Bool) where
             answered_at_end w link way which a (at ends a).state (refused_entry p.bytes None) (t00_text (at ends a).state.own),
             h.0,
             ((at ends a).state, None, may_stay (at ends a).state (verdict (at ends a).state p.bytes now), inl refl, refl),
-            same_links q _ ks _ b true h.1 (met'.2 ∙ ap (with_lane_in ls link way) h.2) (loud r b told h.0 is) ∙ ap noted (answered a link way which (at ends a).state (refused_entry p.bytes None) (t00_text (at ends a).state.own)),
+            same_links q _ ks _ b true h.1 (met'.2 ∙ ap (with_lane_in ls link way) h.2) (loud r b told h.0 is) ∙ ap with_refusal (answered a link way which (at ends a).state (refused_entry p.bytes None) (t00_text (at ends a).state.own)),
           )
         ])
 
     -- an outcome arrives at an end
-    ended_at : (link : ℕ) (way : Side) (j : ℕ) (z : Put) (outcome : Option (List ℕ)) (o : Option sender.Flight) (told : Told) (q : Party) (y : Lane) (ks : Links) → told ≡ cond (is_some o) (Took (pays (flight_of z) outcome)) Silent
+    ended_at : (link : ℕ) (way : Side) (j : ℕ) (z : SentPrepare) (outcome : Option (List ℕ)) (o : Option sender.Flight) (told : Told) (q : Party) (y : Direction) (ks : Links) → told ≡ cond (is_some o) (Took (pays (flight_of z) outcome)) Silent
         → q ≡ with_state (at ends a) (ended_with (at ends a).state (flight_of z) o outcome) → y ≡ with_taken_in (is_some o && pays (flight_of z) outcome) (lane_in ls link way) j → ks ≡ with_lane_in ls link way y
         → BackAtEnd w link way j z outcome a o told (of_parts (put ends a q) ns ks lg r)
     ended_at link way j z outcome None told q y ks e eq ey ek = (e, back_to q ks r r link way y eq ek ey refl)
     ended_at link way j z outcome (Some flown) told q y ks e eq ey ek =
         (e, same_links q _ ks _ r r eq (ek ∙ ap (with_lane_in ls link way) ey) refl ∙ taken_world (pays (flight_of z) outcome) (with_end w a (ended_with (at ends a).state (flight_of z) (Some flown) outcome)) link way j)
 
-    pub back_end_meets : (link : ℕ) (way : Side) (j : ℕ) (now : ℤ) (z : Put) (outcome : Option (List ℕ)) (told : Told) (q : Party) (ks : Links) → LinkBack link way z j outcome told (at ends a) q ls ks
+    pub back_end_meets : (link : ℕ) (way : Side) (j : ℕ) (now : ℤ) (z : SentPrepare) (outcome : Option (List ℕ)) (told : Told) (q : Party) (ks : Links) → LinkBack link way z j outcome told (at ends a) q ls ks
         → BackAt (in_world t ls) link way j now z outcome (AtEnd a) told (in_world (left (put ends a q) ns lg r) ks)
     back_end_meets link way j now z outcome told q ks met =
         let S : Left → Type 0 = λ s. BackAt (in_world s ls) link way j now z outcome (AtEnd a) told (of_parts (put ends a q) ns ks lg r) in

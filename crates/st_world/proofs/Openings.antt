@@ -8,7 +8,7 @@ use Rattle.st_oer.specs.Address.{is_address}
 use Rattle.st_hop.specs.Table.{is_account, is_table}
 use Rattle.st_sender.specs.Sending.{Config}
 use Rattle.st_world.specs.Runs.{Table, is_lawful, is_chain, new_node, opening}
-use Rattle.st_world_parts.specs.State.{World, Node, Party, no_lanes}
+use Rattle.st_world_parts.specs.State.{World, Node, Party, empty_link}
 use Rattle.st_world.specs.Places.{Links}
 use Rattle.st_world.specs.Left.{Left, in_world, left_of, IsReached}
 use Rattle.st_world.proofs.Meets.{Led, of_parts}
@@ -89,15 +89,15 @@ hops_more ts i t ns ms n l is before this after =
     ∙ sym (ap (map new_node) tables ∙ map_push new_node (tables_from 1 (take i ts)) (table_of (i + 1) t))
 
 -- the parts of an opening
-pub opened : (ts : List Terms) (config : Config) (p q : Party) (ns : List Node) (a b : Led) (ls : Links) → p ≡ (opening (chain_of ts config)).ends.client → q ≡ (opening (chain_of ts config)).ends.server → ns ≡ map new_node (tables_from 1 ts) → a ≡ fmap.empty → b ≡ fmap.empty → ls ≡ replicate (length ts + 1) no_lanes
+pub opened : (ts : List Terms) (config : Config) (p q : Party) (ns : List Node) (a b : Led) (ls : Links) → p ≡ (opening (chain_of ts config)).ends.client → q ≡ (opening (chain_of ts config)).ends.server → ns ≡ map new_node (tables_from 1 ts) → a ≡ fmap.empty → b ≡ fmap.empty → ls ≡ replicate (length ts + 1) empty_link
     → of_parts (record { client = p; server = q }) ns ls (record { client = a; server = b }) false ≡ opening (chain_of ts config)
 opened ts config p q ns a b ls ep eq en ea eb el =
     let p' = (opening (chain_of ts config)).ends.client in
     let q' = (opening (chain_of ts config)).ends.server in
     let ns' : List Node = map new_node (tables_from 1 ts) in
-    let ls' : Links = replicate (length (tables_from 1 ts) + 1) no_lanes in
+    let ls' : Links = replicate (length (tables_from 1 ts) + 1) empty_link in
     let no : Led = fmap.empty in
-    let el' : ls ≡ ls' = el ∙ ap (λ (n : ℕ). replicate (n + 1) no_lanes) (sym (tables_length ts 1)) in
+    let el' : ls ≡ ls' = el ∙ ap (λ (n : ℕ). replicate (n + 1) empty_link) (sym (tables_length ts 1)) in
     ap (λ (x : Party). of_parts (record { client = x; server = q }) ns ls (record { client = a; server = b }) false) ep
     ∙ ap (λ (x : Party). of_parts (record { client = p'; server = x }) ns ls (record { client = a; server = b }) false) eq
     ∙ ap (λ (x : List Node). of_parts (record { client = p'; server = q' }) x ls (record { client = a; server = b }) false) en
@@ -108,17 +108,17 @@ opened ts config p q ns a b ls ep eq en ea eb el =
 -- and without its links
 pub opened_left : (ts : List Terms) (config : Config) (p q : Party) (ns : List Node) (a b : Led) → p ≡ (opening (chain_of ts config)).ends.client → q ≡ (opening (chain_of ts config)).ends.server → ns ≡ map new_node (tables_from 1 ts) → a ≡ fmap.empty → b ≡ fmap.empty
     → left_of (of_parts (record { client = p; server = q }) ns [] (record { client = a; server = b }) false) ≡ left_of (opening (chain_of ts config))
-opened_left ts config p q ns a b ep eq en ea eb = ap left_of (opened ts config p q ns a b (replicate (length ts + 1) no_lanes) ep eq en ea eb refl)
+opened_left ts config p q ns a b ep eq en ea eb = ap left_of (opened ts config p q ns a b (replicate (length ts + 1) empty_link) ep eq en ea eb refl)
 
 -- the two together
-pub opened_with : (ts : List Terms) (config : Config) (t : Left) (ls : Links) → t ≡ left_of (opening (chain_of ts config)) → ls ≡ replicate (length ts + 1) no_lanes → in_world t ls ≡ opening (chain_of ts config)
+pub opened_with : (ts : List Terms) (config : Config) (t : Left) (ls : Links) → t ≡ left_of (opening (chain_of ts config)) → ls ≡ replicate (length ts + 1) empty_link → in_world t ls ≡ opening (chain_of ts config)
 opened_with ts config t ls et el =
     ap (λ (x : Left). in_world x ls) et
-    ∙ ap (λ (x : Links). in_world (left_of (opening (chain_of ts config))) x) (el ∙ ap (λ (n : ℕ). replicate (n + 1) no_lanes) (sym (tables_length ts 1)))
+    ∙ ap (λ (x : Links). in_world (left_of (opening (chain_of ts config))) x) (el ∙ ap (λ (n : ℕ). replicate (n + 1) empty_link) (sym (tables_length ts 1)))
 
-pub opened_links : (ts : List Terms) (ns : List Node) (ls : Links) → ns ≡ map new_node (tables_from 1 ts) → ls ≡ replicate (length ts + 1) no_lanes → length ls ≡ length ns + 1
+pub opened_links : (ts : List Terms) (ns : List Node) (ls : Links) → ns ≡ map new_node (tables_from 1 ts) → ls ≡ replicate (length ts + 1) empty_link → length ls ≡ length ns + 1
 opened_links ts ns ls en el =
-    ap length el ∙ length-replicate (length ts + 1) no_lanes ∙ ap (λ (n : ℕ). n + 1) (sym (ap length en ∙ length-map (tables_from 1 ts) new_node ∙ tables_length ts 1))
+    ap length el ∙ length-replicate (length ts + 1) empty_link ∙ ap (λ (n : ℕ). n + 1) (sym (ap length en ∙ length-map (tables_from 1 ts) new_node ∙ tables_length ts 1))
 
 pub opened_reached : (w : World) (ts : List Terms) (config : Config) → w ≡ opening (chain_of ts config) → IsReached w
 opened_reached w ts config e = (chain_of ts config, [], e)

@@ -1,57 +1,57 @@
 -- What one place of the list of links, or two adjacent ones, become.
 use Rattle.std.proofs.Common.{◌≡◌, ℕ, ◌+◌, ◌<◌, List, ◌++◌, length, set, get_or, sym, subst, ◌∙◌, arith, ℤ, Option}
 use Rattle.st_world_parts.specs.Sides.{Side, Both, at, put}
-use Rattle.st_world_parts.specs.State.{Party, Node, Put, Lane}
+use Rattle.st_world_parts.specs.State.{Party, Node, SentPrepare, Direction}
 use Rattle.st_world_parts.specs.Events.{Told}
 use Rattle.st_world_parts.specs.Parts.{lane_in, EndSends, EndMet, EndBack, HopMet, HopBack}
 use Rattle.st_world.specs.Places.{Links, LinkSends, LinkMet, LinkBack, HopsMet, HopsBack}
 use Rattle.st_world.proofs.LinkLists.{any_or, is_link, over_lane, two_set, AreTwo, are_two, rising, falling}
 
-module _ (ls : Links) (i : ℕ) (l x k : Both Lane) (a : Side) (h : i < length ls) (lx : l ≡ get_or ls i x) where
+module _ (ls : Links) (i : ℕ) (l x k : Both Direction) (a : Side) (h : i < length ls) (lx : l ≡ get_or ls i x) where
   is : l ≡ get_or ls i l
   is = lx ∙ any_or ls i x l h
 
-  pub sends_over : (iv : List ℕ) (now : ℤ) (told : Told) (p q : Party) (y : Lane) → EndSends iv now told p q (at l a) y → k ≡ put l a y → LinkSends i a iv now told p q ls (set ls i k)
-  sends_over iv now told p q y met e = (y, subst (λ (z : Both Lane). EndSends iv now told p q (at z a) y) (sym (is_link ls i l h is)) met, over_lane ls i l a y k h is e)
+  pub sends_over : (iv : List ℕ) (now : ℤ) (told : Told) (p q : Party) (y : Direction) → EndSends iv now told p q (at l a) y → k ≡ put l a y → LinkSends i a iv now told p q ls (set ls i k)
+  sends_over iv now told p q y met e = (y, subst (λ (z : Both Direction). EndSends iv now told p q (at z a) y) (sym (is_link ls i l h is)) met, over_lane ls i l a y k h is e)
 
-  pub meets_over : (which : ℕ) (bytes : List ℕ) (now : ℤ) (told : Told) (p q : Party) (y : Lane) → EndMet which bytes now told p q (at l a) y → k ≡ put l a y → LinkMet i a which bytes now told p q ls (set ls i k)
-  meets_over which bytes now told p q y met e = (y, subst (λ (z : Both Lane). EndMet which bytes now told p q (at z a) y) (sym (is_link ls i l h is)) met, over_lane ls i l a y k h is e)
+  pub meets_over : (which : ℕ) (bytes : List ℕ) (now : ℤ) (told : Told) (p q : Party) (y : Direction) → EndMet which bytes now told p q (at l a) y → k ≡ put l a y → LinkMet i a which bytes now told p q ls (set ls i k)
+  meets_over which bytes now told p q y met e = (y, subst (λ (z : Both Direction). EndMet which bytes now told p q (at z a) y) (sym (is_link ls i l h is)) met, over_lane ls i l a y k h is e)
 
-  pub backs_over : (z : Put) (j : ℕ) (outcome : Option (List ℕ)) (told : Told) (p q : Party) (y : Lane) → EndBack z j outcome told p q (at l a) y → k ≡ put l a y → LinkBack i a z j outcome told p q ls (set ls i k)
-  backs_over z j outcome told p q y met e = (y, subst (λ (u : Both Lane). EndBack z j outcome told p q (at u a) y) (sym (is_link ls i l h is)) met, over_lane ls i l a y k h is e)
+  pub backs_over : (z : SentPrepare) (j : ℕ) (outcome : Option (List ℕ)) (told : Told) (p q : Party) (y : Direction) → EndBack z j outcome told p q (at l a) y → k ≡ put l a y → LinkBack i a z j outcome told p q ls (set ls i k)
+  backs_over z j outcome told p q y met e = (y, subst (λ (u : Both Direction). EndBack z j outcome told p q (at u a) y) (sym (is_link ls i l h is)) met, over_lane ls i l a y k h is e)
 
-module _ (ls xs ys : Links) (i : ℕ) (x y x' y' : Both Lane) (a : Side) (e : ls ≡ xs ++ ys) (n : length xs ≡ i + 1) (more : 0 < length ys) (fx : x ≡ get_or xs i x') (fy : y ≡ get_or ys 0 y') where
+module _ (ls xs ys : Links) (i : ℕ) (x y x' y' : Both Direction) (a : Side) (e : ls ≡ xs ++ ys) (n : length xs ≡ i + 1) (more : 0 < length ys) (fx : x ≡ get_or xs i x') (fy : y ≡ get_or ys 0 y') where
   two : AreTwo ls i x y
   two = are_two ls xs ys i x y e n more (fx ∙ any_or xs i x' x (omega (arith, n))) (fy ∙ any_or ys 0 y' y more)
 
-  pub meets_up : (which : ℕ) (bytes : List ℕ) (now : ℤ) (told : Told) (p q : Node) (u v : Lane) → HopMet a which bytes now told p q (at y a) v (at x a) u → HopsMet i (i + 1) a which bytes now told p q ls (set xs i (put x a u) ++ set ys 0 (put y a v))
+  pub meets_up : (which : ℕ) (bytes : List ℕ) (now : ℤ) (told : Told) (p q : Node) (u v : Direction) → HopMet a which bytes now told p q (at y a) v (at x a) u → HopsMet i (i + 1) a which bytes now told p q ls (set xs i (put x a u) ++ set ys 0 (put y a v))
   meets_up which bytes now told p q u v met = (
     v,
     u,
-    subst (λ (z : Both Lane). HopMet a which bytes now told p q (at z a) v (lane_in ls i a) u) (sym two.second) (subst (λ (z : Both Lane). HopMet a which bytes now told p q (at y a) v (at z a) u) (sym two.first) met),
+    subst (λ (z : Both Direction). HopMet a which bytes now told p q (at z a) v (lane_in ls i a) u) (sym two.second) (subst (λ (z : Both Direction). HopMet a which bytes now told p q (at y a) v (at z a) u) (sym two.first) met),
     two_set ls xs ys i (put x a u) (put y a v) e n ∙ rising ls i x y a u v two,
   )
 
-  pub meets_down : (which : ℕ) (bytes : List ℕ) (now : ℤ) (told : Told) (p q : Node) (u v : Lane) → HopMet a which bytes now told p q (at x a) u (at y a) v → HopsMet (i + 1) i a which bytes now told p q ls (set xs i (put x a u) ++ set ys 0 (put y a v))
+  pub meets_down : (which : ℕ) (bytes : List ℕ) (now : ℤ) (told : Told) (p q : Node) (u v : Direction) → HopMet a which bytes now told p q (at x a) u (at y a) v → HopsMet (i + 1) i a which bytes now told p q ls (set xs i (put x a u) ++ set ys 0 (put y a v))
   meets_down which bytes now told p q u v met = (
     u,
     v,
-    subst (λ (z : Both Lane). HopMet a which bytes now told p q (at z a) u (lane_in ls (i + 1) a) v) (sym two.first) (subst (λ (z : Both Lane). HopMet a which bytes now told p q (at x a) u (at z a) v) (sym two.second) met),
+    subst (λ (z : Both Direction). HopMet a which bytes now told p q (at z a) u (lane_in ls (i + 1) a) v) (sym two.first) (subst (λ (z : Both Direction). HopMet a which bytes now told p q (at x a) u (at z a) v) (sym two.second) met),
     two_set ls xs ys i (put x a u) (put y a v) e n ∙ falling ls i x y a u v two,
   )
 
-  pub backs_up : (z : Put) (j : ℕ) (outcome : Option (List ℕ)) (now : ℤ) (told : Told) (p q : Node) (u v : Lane) → HopBack z j outcome now told p q (at y a) v (at x a) u → HopsBack (i + 1) i a z j outcome now told p q ls (set xs i (put x a u) ++ set ys 0 (put y a v))
+  pub backs_up : (z : SentPrepare) (j : ℕ) (outcome : Option (List ℕ)) (now : ℤ) (told : Told) (p q : Node) (u v : Direction) → HopBack z j outcome now told p q (at y a) v (at x a) u → HopsBack (i + 1) i a z j outcome now told p q ls (set xs i (put x a u) ++ set ys 0 (put y a v))
   backs_up z j outcome now told p q u v met = (
     v,
     u,
-    subst (λ (w : Both Lane). HopBack z j outcome now told p q (at w a) v (lane_in ls i a) u) (sym two.second) (subst (λ (w : Both Lane). HopBack z j outcome now told p q (at y a) v (at w a) u) (sym two.first) met),
+    subst (λ (w : Both Direction). HopBack z j outcome now told p q (at w a) v (lane_in ls i a) u) (sym two.second) (subst (λ (w : Both Direction). HopBack z j outcome now told p q (at y a) v (at w a) u) (sym two.first) met),
     two_set ls xs ys i (put x a u) (put y a v) e n ∙ falling ls i x y a u v two,
   )
 
-  pub backs_down : (z : Put) (j : ℕ) (outcome : Option (List ℕ)) (now : ℤ) (told : Told) (p q : Node) (u v : Lane) → HopBack z j outcome now told p q (at x a) u (at y a) v → HopsBack i (i + 1) a z j outcome now told p q ls (set xs i (put x a u) ++ set ys 0 (put y a v))
+  pub backs_down : (z : SentPrepare) (j : ℕ) (outcome : Option (List ℕ)) (now : ℤ) (told : Told) (p q : Node) (u v : Direction) → HopBack z j outcome now told p q (at x a) u (at y a) v → HopsBack i (i + 1) a z j outcome now told p q ls (set xs i (put x a u) ++ set ys 0 (put y a v))
   backs_down z j outcome now told p q u v met = (
     u,
     v,
-    subst (λ (w : Both Lane). HopBack z j outcome now told p q (at w a) u (lane_in ls (i + 1) a) v) (sym two.first) (subst (λ (w : Both Lane). HopBack z j outcome now told p q (at x a) u (at w a) v) (sym two.second) met),
+    subst (λ (w : Both Direction). HopBack z j outcome now told p q (at w a) u (lane_in ls (i + 1) a) v) (sym two.first) (subst (λ (w : Both Direction). HopBack z j outcome now told p q (at x a) u (at w a) v) (sym two.second) met),
     two_set ls xs ys i (put x a u) (put y a v) e n ∙ rising ls i x y a u v two,
   )

@@ -6,7 +6,7 @@ use Rattle.std.proofs.lemmas.Option.{slice_get_past, slice_get_read}
 use Rattle.std.proofs.lemmas.List.{take_more, map_push}
 use Rattle.std.proofs.lemmas.Bool.Decides.{nat_tests}
 use Rattle.st_world_parts.specs.Sides.{Side, Client, Server}
-use Rattle.st_world_parts.specs.State.{World, Node, Put, Place, AtEnd, AtHop, far, nth, lane_at}
+use Rattle.st_world_parts.specs.State.{World, Node, SentPrepare, Place, AtEnd, AtHop, far, nth, direction_at}
 use Rattle.st_world_parts.specs.Events as events
 use Rattle.st_world_parts.specs.Events.{Told, Silent, IsEvent}
 use Rattle.st_world.specs.Steps.{Meets, Happens, Arrives, RefusesArrival}
@@ -40,21 +40,21 @@ down_hop w (suc link) hop e = ap AtHop (omega (arith, e))
 
 -- ---- Prepares
 
-pub arrives_at : (w after : World) (link : ℕ) (way : Side) (which : ℕ) (now : ℤ) (p : Put) (told : Told) → nth (lane_at w link way).puts which ≡ Some p → MeetsAt w link way which now p (far w link way) told after → Meets w (events.Arrive link way which now) told after
+pub arrives_at : (w after : World) (link : ℕ) (way : Side) (which : ℕ) (now : ℤ) (p : SentPrepare) (told : Told) → nth (direction_at w link way).prepares which ≡ Some p → MeetsAt w link way which now p (far w link way) told after → Meets w (events.Arrive link way which now) told after
 arrives_at w after link way which now p told here met = elim met [
-  | inl h ↦ inl (subst (λ (o : Option Put). Arrives w link way which now o told after) (sym here) h)
-  | inr h ↦ inr (h.0, h.1, subst (λ (o : Option Put). RefusesArrival w link way which now o h.0) (sym here) h.2, h.3)
+  | inl h ↦ inl (subst (λ (o : Option SentPrepare). Arrives w link way which now o told after) (sym here) h)
+  | inr h ↦ inr (h.0, h.1, subst (λ (o : Option SentPrepare). RefusesArrival w link way which now o h.0) (sym here) h.2, h.3)
 ]
 
 -- on a way that is known
-pub arrives_on : (w after : World) (link : ℕ) (way side : Side) (which : ℕ) (now : ℤ) (p : Put) (told : Told) → way ≡ side → nth (lane_at w link way).puts which ≡ Some p → MeetsAt w link side which now p (far w link side) told after → Meets w (events.Arrive link way which now) told after
+pub arrives_on : (w after : World) (link : ℕ) (way side : Side) (which : ℕ) (now : ℤ) (p : SentPrepare) (told : Told) → way ≡ side → nth (direction_at w link way).prepares which ≡ Some p → MeetsAt w link side which now p (far w link side) told after → Meets w (events.Arrive link way which now) told after
 arrives_on w after link way side which now p told is here met = arrives_at w after link way which now p told here (subst (λ (x : Side). MeetsAt w link x which now p (far w link x) told after) (sym is) met)
 
 -- at the place where it comes
-pub meets_there : (w after : World) (link : ℕ) (way : Side) (which : ℕ) (now : ℤ) (p : Put) (place : Place) (told : Told) → far w link way ≡ place → MeetsAt w link way which now p place told after → MeetsAt w link way which now p (far w link way) told after
+pub meets_there : (w after : World) (link : ℕ) (way : Side) (which : ℕ) (now : ℤ) (p : SentPrepare) (place : Place) (told : Told) → far w link way ≡ place → MeetsAt w link way which now p place told after → MeetsAt w link way which now p (far w link way) told after
 meets_there w after link way which now p place told is met = subst (λ (x : Place). MeetsAt w link way which now p x told after) (sym is) met
 
-pub meets_below : (w after : World) (link hop : ℕ) (which : ℕ) (now : ℤ) (p : Put) (told : Told) → link ≡ hop + 1 → MeetsAt w (hop + 1) Server which now p (AtHop hop) told after → MeetsAt w link Server which now p (far w link Server) told after
+pub meets_below : (w after : World) (link hop : ℕ) (which : ℕ) (now : ℤ) (p : SentPrepare) (told : Told) → link ≡ hop + 1 → MeetsAt w (hop + 1) Server which now p (AtHop hop) told after → MeetsAt w link Server which now p (far w link Server) told after
 meets_below w after link hop which now p told e met = meets_there w after link Server which now p (AtHop hop) told (down_hop w link hop e) (subst (λ (l : ℕ). MeetsAt w l Server which now p (AtHop hop) told after) (sym e) met)
 
 -- ---- events

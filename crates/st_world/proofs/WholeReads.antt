@@ -7,8 +7,8 @@ use Rattle.st_sender.specs.Sending.{Outgoing, outgoing_at, with_outgoing}
 use Rattle.st_receiver.specs.Streams.{Receiving, Incoming, incoming_at, incoming_or}
 use Rattle.st_receiver.specs.Reading.{Got, Bytes, Nothing, End, Aborted}
 use Rattle.st_world_parts.specs.Sides.{Side, Client, Server, other, Both, at, put, IsPrefixOf}
-use Rattle.st_world_parts.specs.State.{World, Party, ledger_at, with_ledger, end_at, with_end}
-use Rattle.st_world_parts.specs.Ledgers.{Ledger, got}
+use Rattle.st_world_parts.specs.State.{World, Party, log_at, with_ledger, end_at, with_end}
+use Rattle.st_world_parts.specs.StreamLogs.{StreamLog, got}
 use Rattle.st_streams.proofs.SlotLemmas.{slot_here, slot_apart, slot_within}
 use Rattle.st_world.proofs.DataReceived.{fresh_at, StreamFine, incoming_here}
 use Rattle.st_world.proofs.DataSent.{OutFine}
@@ -22,7 +22,7 @@ use Rattle.st_world.proofs.WholeStates.{ForthOf, GoodAt, Passed, StatesOf, Stays
 use Rattle.st_world.proofs.Truths.{or_true, or_right}
 
 -- a ledger after a read
-out_got : (g : Got) (l : Ledger) (n : ℕ) (o : Option Outgoing) → OutWhole l n o → OutWhole (got g l) n o
+out_got : (g : Got) (l : StreamLog) (n : ℕ) (o : Option Outgoing) → OutWhole l n o → OutWhole (got g l) n o
 out_got (Bytes xs) l n None h = h
 out_got (Bytes xs) l n (Some y) h = record { codes = h.codes; aborted = h.aborted; shut = h.shut; clean = h.clean; acked = h.acked }
 out_got Nothing l n o h = h
@@ -31,19 +31,19 @@ out_got End l n (Some y) h = record { codes = h.codes; aborted = h.aborted; shut
 out_got (Aborted code) l n None h = h
 out_got (Aborted code) l n (Some y) h = record { codes = h.codes; aborted = h.aborted; shut = h.shut; clean = h.clean; acked = h.acked }
 
-in_got : (g : Got) (l : Ledger) (x : Incoming) → InWhole l x → InWhole (got g l) x
+in_got : (g : Got) (l : StreamLog) (x : Incoming) → InWhole l x → InWhole (got g l) x
 in_got (Bytes xs) l x h = record { ends = h.ends; drops = h.drops; within = h.within; past = h.past }
 in_got Nothing l x h = h
 in_got End l x h = record { ends = h.ends; drops = h.drops; within = h.within; past = h.past }
 in_got (Aborted code) l x h = record { ends = h.ends; drops = h.drops; within = h.within; past = h.past }
 
-clean_got : (g : Got) (l : Ledger) → l.clean ≡ true → ((got g l).clean ≡ true) × ((got g l).written ≡ l.written)
+clean_got : (g : Got) (l : StreamLog) → l.clean ≡ true → ((got g l).clean ≡ true) × ((got g l).written ≡ l.written)
 clean_got (Bytes xs) l e = (e, refl)
 clean_got Nothing l e = (e, refl)
 clean_got End l e = (e, refl)
 clean_got (Aborted code) l e = (e, refl)
 
-aborted_got : (g : Got) (l : Ledger) → l.aborted ≡ true → (got g l).aborted ≡ true
+aborted_got : (g : Got) (l : StreamLog) → l.aborted ≡ true → (got g l).aborted ≡ true
 aborted_got (Bytes xs) l e = e
 aborted_got Nothing l e = e
 aborted_got End l e = e
@@ -64,18 +64,18 @@ nothing_more r t w p e =
     let d : length r ≡ length w = ap (λ l. length l) e in
     prefix_whole (r ++ t) w p (omega arith)
 
-told_got : (l : Ledger) (x : Incoming) (g : Got) → Tells x g → StreamFine l.written l.read x.held → InWhole l x → ToldWhole l x → ToldWhole (got g l) x
+told_got : (l : StreamLog) (x : Incoming) (g : Got) → Tells x g → StreamFine l.written l.read x.held → InWhole l x → ToldWhole l x → ToldWhole (got g l) x
 told_got l x g nothing f h d = d
 told_got l x g (ended n a is e) f h d = record {
-  told_end = λ yes. let i = h.ends n is in (i.2, prefix_whole l.read l.written f.is_prefix (let c : length l.read ≡ x.held.read = f.count in let b : n ≡ length l.written = i.0 in let k : n ≡ x.held.read = e in omega arith));
-  told_abort = d.told_abort;
+  saw_end = λ yes. let i = h.ends n is in (i.2, prefix_whole l.read l.written f.is_prefix (let c : length l.read ≡ x.held.read = f.count in let b : n ≡ length l.written = i.0 in let k : n ≡ x.held.read = e in omega arith));
+  saw_abort = d.saw_abort;
 }
-told_got l x g (aborted code a) f h d = record { told_end = d.told_end; told_abort = λ yes. ap (λ z. is_some z) a }
+told_got l x g (aborted code a) f h d = record { saw_end = d.saw_end; saw_abort = λ yes. ap (λ z. is_some z) a }
 
-stays_got : (l : Ledger) (x : Incoming) (g : Got) → Tells x g → StaysTold l (got g l)
+stays_got : (l : StreamLog) (x : Incoming) (g : Got) → Tells x g → StaysTold l (got g l)
 stays_got l x g nothing e = (e, refl)
 stays_got l x g (ended n a is f) e = (refl, refl)
-stays_got l x g (aborted code a) e = (or_right l.told_end, refl)
+stays_got l x g (aborted code a) e = (or_right l.saw_end, refl)
 
 put_same : (b : Both Party) (a : Side) → put b a (at b a) ≡ b
 put_same b Client = refl
@@ -85,7 +85,7 @@ held_here : (r : Receiving) (k : ℕ) (x : Incoming) → slot r.streams k ≡ So
 held_here r k x is = ap (incoming_or (fresh_at r k)) is
 
 tells_passed : (keys : DerivedKeys) (w : World) (s : Side) (k : ℕ) (x : Incoming) (g : Got) → slot (end_at w (other s)).receiving.streams k ≡ Some x → Tells x g → DataFine keys w → StatesOf w.ends w.ledgers
-    → Passed w (with_ledger w s k (got g (ledger_at w s k)))
+    → Passed w (with_ledger w s k (got g (log_at w s k)))
 tells_passed keys w s k x g is t d h =
     let l = ledger_in w.ledgers s k in
     let same : incoming_at (end_at w (other s)).receiving k ≡ x = held_here (end_at w (other s)).receiving k x is in
@@ -107,11 +107,11 @@ tells_passed keys w s k x g is t d h =
     record { states = subst P (put_same w.ends s) m.0; forth = subst Q (put_same w.ends s) m.1 }
 
 pub tells_side : (keys : DerivedKeys) (w : World) (a : Side) (k : ℕ) (x : Incoming) (g : Got) → slot (end_at w a).receiving.streams k ≡ Some x → Tells x g → DataFine keys w → StatesOf w.ends w.ledgers
-    → Passed w (with_ledger w (other a) k (got g (ledger_at w (other a) k)))
+    → Passed w (with_ledger w (other a) k (got g (log_at w (other a) k)))
 tells_side keys w Client k x g is t d h = tells_passed keys w Server k x g is t d h
 tells_side keys w Server k x g is t d h = tells_passed keys w Client k x g is t d h
 
-ledger_with : (w : World) (s : Side) (k : ℕ) (x : Ledger) → ledger_at (with_ledger w s k x) s k ≡ x
+ledger_with : (w : World) (s : Side) (k : ℕ) (x : StreamLog) → log_at (with_ledger w s k x) s k ≡ x
 ledger_with w Client k x = ledger_here w.ledgers.client k x
 ledger_with w Server k x = ledger_here w.ledgers.server k x
 
@@ -119,7 +119,7 @@ passed_join : (w u v : World) → Passed w u → ForthOf u.ends u.ledgers v.ends
 passed_join w u v p f h = record { states = h; forth = λ a. forth_join (ledger_in w.ledgers a) (ledger_in u.ledgers a) (ledger_in v.ledgers a) _ _ _ (p.forth a) (f a) }
 
 -- a read of bytes: the reader's end first, then the ledger
-read_in' : (l : Ledger) (x : Incoming) (run : List ℕ) (n : ℕ) → IsRun x.held run → n ≤ length run → InWhole l x → InWhole l (record x { held = after_read n x.held })
+read_in' : (l : StreamLog) (x : Incoming) (run : List ℕ) (n : ℕ) → IsRun x.held run → n ≤ length run → InWhole l x → InWhole l (record x { held = after_read n x.held })
 unfolding after_read
 read_in' l x run n r s i = record { ends = i.ends; drops = i.drops; within = i.within; past = λ o. past_read x.held x.highest run n r s (i.past o) }
 
@@ -153,25 +153,25 @@ bytes_good w Server k n x run row few is h s e f =
       rise = rise-with r k (record x { held = after_read n x.held }) (subst R (sym (held_here r k x is)) (read_rise x n));
     }
 
-reads_ledger : (keys : DerivedKeys) (w u : World) (s : Side) (k : ℕ) (t : List ℕ) → StatesOf u.ends u.ledgers → DataFine keys (with_ledger u s k (got (Bytes t) (ledger_at u s k))) → is_some (incoming_at (end_at u (other s)).receiving k).held.aborted ≡ false
-    → StatesOf u.ends (with_of u.ledgers s k (got (Bytes t) (ledger_at u s k))) × ForthOf u.ends u.ledgers u.ends (with_of u.ledgers s k (got (Bytes t) (ledger_at u s k)))
+reads_ledger : (keys : DerivedKeys) (w u : World) (s : Side) (k : ℕ) (t : List ℕ) → StatesOf u.ends u.ledgers → DataFine keys (with_ledger u s k (got (Bytes t) (log_at u s k))) → is_some (incoming_at (end_at u (other s)).receiving k).held.aborted ≡ false
+    → StatesOf u.ends (with_of u.ledgers s k (got (Bytes t) (log_at u s k))) × ForthOf u.ends u.ledgers u.ends (with_of u.ledgers s k (got (Bytes t) (log_at u s k)))
 reads_ledger keys w u s k t h d live =
     let l = ledger_in u.ledgers s k in
-    let L : Ledger → Type 0 = λ z. IsPrefixOf z.read z.written in
+    let L : StreamLog → Type 0 = λ z. IsPrefixOf z.read z.written in
     let prefix : IsPrefixOf (l.read ++ t) l.written = subst L (ledger_with u s k (got (Bytes t) l)) ((d.ways s).recv k).is_prefix in
     let old = (h s).told k in
     let m = passed_ledger u.ledgers u.ends s (at u.ends s) k (got (Bytes t) l) refl (λ j n. refl)
     (record {
       out = out_got (Bytes t) l _ _ ((h s).send k);
       inn = in_got (Bytes t) l _ ((h s).recv k);
-      told = record { told_end = λ e. let o = old.told_end e in (o.0, nothing_more l.read t l.written prefix o.1); told_abort = old.told_abort };
+      told = record { saw_end = λ e. let o = old.saw_end e in (o.0, nothing_more l.read t l.written prefix o.1); saw_abort = old.saw_abort };
       clean = clean_got (Bytes t) l;
       aborted = aborted_got (Bytes t) l;
       stays = λ e. (
         e,
-        elim (or_true l.told_end l.told_abort e) [
-          | inl y ↦ let o = old.told_end y in nothing_more l.read t l.written prefix o.1 ∙ sym o.1
-          | inr y ↦ absurd (let o = old.told_abort y in cc)
+        elim (or_true l.saw_end l.saw_abort e) [
+          | inl y ↦ let o = old.saw_end y in nothing_more l.read t l.written prefix o.1 ∙ sym o.1
+          | inr y ↦ absurd (let o = old.saw_abort y in cc)
         ],
       );
     }) h in
@@ -184,20 +184,20 @@ live_after w Client k n x is e = ap (λ (z : Incoming). is_some z.held.aborted) 
 live_after w Server k n x is e = ap (λ (z : Incoming). is_some z.held.aborted) (incoming_here (end_at w Server).receiving k (record x { held = after_read n x.held }) (slot_within (end_at w Server).receiving.streams k x is)) ∙ read_live x n ∙ ap (λ z. is_some z) e
 
 pub reads_passed : (keys : DerivedKeys) (w : World) (a : Side) (k n : ℕ) (x : Incoming) (run t : List ℕ) → IsRun x.held run → n ≤ length run → slot (end_at w a).receiving.streams k ≡ Some x → x.held.aborted ≡ None → StatesOf w.ends w.ledgers
-    → let v = with_ledger (with_end w a (after_reading (end_at w a) k x n)) (other a) k (got (Bytes t) (ledger_at w (other a) k)) in DataFine keys v → Passed w v
+    → let v = with_ledger (with_end w a (after_reading (end_at w a) k x n)) (other a) k (got (Bytes t) (log_at w (other a) k)) in DataFine keys v → Passed w v
 reads_passed keys w Client k n x run t row few is live h d =
     let u = with_end w Client (after_reading (end_at w Client) k x n) in
-    let p = passed_end w u Client (record { state = after_reading (end_at w Client) k x n; bag = w.ends.client.bag }) refl refl (bytes_good w Client k n x run row few is h Server refl refl) h in
+    let p = passed_end w u Client (record { state = after_reading (end_at w Client) k x n; answered = w.ends.client.answered }) refl refl (bytes_good w Client k n x run row few is h Server refl refl) h in
     let m = reads_ledger keys w u Server k t p.states d (live_after w Client k n x is live) in
-    passed_join w u (with_ledger u Server k (got (Bytes t) (ledger_at w Server k))) p m.1 m.0
+    passed_join w u (with_ledger u Server k (got (Bytes t) (log_at w Server k))) p m.1 m.0
 reads_passed keys w Server k n x run t row few is live h d =
     let u = with_end w Server (after_reading (end_at w Server) k x n) in
-    let p = passed_end w u Server (record { state = after_reading (end_at w Server) k x n; bag = w.ends.server.bag }) refl refl (bytes_good w Server k n x run row few is h Client refl refl) h in
+    let p = passed_end w u Server (record { state = after_reading (end_at w Server) k x n; answered = w.ends.server.answered }) refl refl (bytes_good w Server k n x run row few is h Client refl refl) h in
     let m = reads_ledger keys w u Client k t p.states d (live_after w Server k n x is live) in
-    passed_join w u (with_ledger u Client k (got (Bytes t) (ledger_at w Client k))) p m.1 m.0
+    passed_join w u (with_ledger u Client k (got (Bytes t) (log_at w Client k))) p m.1 m.0
 
 -- an accepted call
-pub accepts_passed : (keys : DerivedKeys) (w : World) (a : Side) (k : ℕ) (x y : Outgoing) (m : Ledger) → outgoing_at (end_at w a).sending k ≡ Some x → is_some x.abort ≡ false → Accepts x (ledger_at w a k) y m → DataFine keys w → StatesOf w.ends w.ledgers
+pub accepts_passed : (keys : DerivedKeys) (w : World) (a : Side) (k : ℕ) (x y : Outgoing) (m : StreamLog) → outgoing_at (end_at w a).sending k ≡ Some x → is_some x.abort ≡ false → Accepts x (log_at w a k) y m → DataFine keys w → StatesOf w.ends w.ledgers
     → Passed w (with_ledger (with_end w a (record (end_at w a) { sending = with_outgoing (end_at w a).sending k y })) a k m)
 accepts_passed keys w a k x y m is live c d h =
     let l = ledger_in w.ledgers a k in
@@ -209,17 +209,17 @@ accepts_passed keys w a k x y m is live c d h =
     let f = follows l m (incoming_at r k).highest x y c live old in
     let Q : Option Outgoing → Type 0 = λ z. OutWhole m (incoming_at r k).highest z in
     let told = (h a).told k in
-    let n = passed_ledger w.ledgers w.ends a (record { state = record (end_at w a) { sending = with_outgoing (end_at w a).sending k y }; bag = (at w.ends a).bag }) k m refl
+    let n = passed_ledger w.ledgers w.ends a (record { state = record (end_at w a) { sending = with_outgoing (end_at w a).sending k y }; answered = (at w.ends a).answered }) k m refl
     (λ j ne. slot_apart (end_at w a).sending.streams k y j ne)
     (record {
       out = subst Q (sym (slot_here (end_at w a).sending.streams k y (slot_within (end_at w a).sending.streams k x is))) (out_accepts l m (incoming_at r k).highest x y c live count old);
       inn = in_accepts l m (incoming_at r k).highest x y (incoming_at r k) c live old ((h a).recv k);
       told = record {
-        told_end = λ e. let o = told.told_end (sym f.told_end ∙ e) in let g = f.clean o.0 in (g.0, f.read ∙ o.1 ∙ sym g.1);
-        told_abort = λ e. told.told_abort (sym f.told_abort ∙ e);
+        saw_end = λ e. let o = told.saw_end (sym f.saw_end ∙ e) in let g = f.clean o.0 in (g.0, f.read ∙ o.1 ∙ sym g.1);
+        saw_abort = λ e. told.saw_abort (sym f.saw_abort ∙ e);
       };
       clean = f.clean;
       aborted = f.aborted;
-      stays = λ e. (ap (λ b. b || m.told_abort) f.told_end ∙ ap (λ b. l.told_end || b) f.told_abort ∙ e, f.read);
+      stays = λ e. (ap (λ b. b || m.saw_abort) f.saw_end ∙ ap (λ b. l.saw_end || b) f.saw_abort ∙ e, f.read);
     }) h in
     record { states = n.0; forth = n.1 }

@@ -8,7 +8,7 @@ use Rattle.std.proofs.lemmas.Option.{slice_get_within}
 use Rattle.st_frames.specs.Frames.{Known, ConnectionClose, ConnectionNewAddress, ConnectionMaxData, ConnectionDataBlocked, StreamClose, StreamMoney, StreamMaxMoney, StreamMoneyBlocked, StreamData, StreamMaxData, StreamDataBlocked, Packet, frames_of}
 use Rattle.st_reassembly.specs.Held.{Held, after_insert, is_over}
 use Rattle.st_reassembly.specs.Closing.{past_all, after_finish, after_abort}
-use Rattle.st_sender.specs.Sending.{Sending, Outgoing, Flown, Data, Whole, outgoing_at}
+use Rattle.st_sender.specs.Sending.{Sending, Outgoing, SentFrame, Data, Whole, outgoing_at}
 use Rattle.st_sender.specs.Flights.{flown}
 use Rattle.st_receiver.specs.Streams.{Receiving, Incoming, incoming_at, with_incoming, may_name, opened_stream}
 use Rattle.st_receiver.specs.declared.reason.Reason.{Reason}
@@ -16,7 +16,7 @@ use Rattle.st_receiver.specs.Data.{with_data, after_data, stream_fault, data_fau
 use Rattle.st_receiver.specs.Money.{after_money}
 use Rattle.st_receiver.specs.Closes.{with_close, after_close, after_closes, after_connection_closes}
 use Rattle.st_receiver.specs.Judged.{with_sequence, effect}
-use Rattle.st_world_parts.specs.Ledgers.{Ledger}
+use Rattle.st_world_parts.specs.StreamLogs.{StreamLog}
 use Rattle.st_world.proofs.Maps.{Within}
 use Rattle.st_world.proofs.DataReceived.{incoming_here, incoming_cases, insert_keeps, money_keeps, FrameFine, FramesFine}
 use Rattle.st_world.proofs.Credited.{frames_keep}
@@ -24,29 +24,29 @@ use Rattle.st_world.proofs.PastEnds.{IsPast, past_data, past_is}
 use Rattle.st_world.proofs.Truths.{or_false, or_true, or_right, or_none}
 
 -- one outgoing stream: its ledger, and the highest byte end that the receiver has
-pub record OutSome (l : Ledger) (n : ℕ) (y : Outgoing) : Type 0 where
+pub record OutSome (l : StreamLog) (n : ℕ) (y : Outgoing) : Type 0 where
   pub codes : (c : ℕ) → y.abort ≡ Some c → c ≢ 1
   pub aborted : l.aborted ≡ is_some y.abort
   pub shut : l.clean ≡ true → (y.clean || is_some y.abort) ≡ true
   pub clean : y.clean ≡ true → l.clean ≡ true
   pub acked : is_some y.abort ≡ false → (i : ℕ) → i < length l.written → fmap.get y.unacked i ≡ None → i < n
 
-abbrev pub OutWhole : Ledger → ℕ → Option Outgoing → Type 0
+abbrev pub OutWhole : StreamLog → ℕ → Option Outgoing → Type 0
 OutWhole l n None = (l.clean ≡ false) × (l.aborted ≡ false) × (l.written ≡ [])
 OutWhole l n (Some y) = OutSome l n y
 
 -- one incoming stream: a fixed end is the length of what was written, and while none is fixed the highest byte end is
 -- the end that a clean close would fix
-pub record InWhole (l : Ledger) (x : Incoming) : Type 0 where
+pub record InWhole (l : StreamLog) (x : Incoming) : Type 0 where
   pub ends : (n : ℕ) → x.held.end ≡ Some n → (n ≡ length l.written) × (x.highest ≡ length l.written) × (l.clean ≡ true)
   pub drops : is_some x.held.aborted ≡ true → l.aborted ≡ true
   pub within : x.highest ≤ length l.written
   pub past : is_over x.held ≡ false → IsPast x.held x.highest
 
-abbrev pub SendWhole : (ℕ → Ledger) → Receiving → Sending → Type 0
+abbrev pub SendWhole : (ℕ → StreamLog) → Receiving → Sending → Type 0
 SendWhole l r s = (k : ℕ) → OutWhole (l k) (incoming_at r k).highest (outgoing_at s k)
 
-abbrev pub RecvWhole : (ℕ → Ledger) → Receiving → Type 0
+abbrev pub RecvWhole : (ℕ → StreamLog) → Receiving → Type 0
 RecvWhole l r = (k : ℕ) → InWhole (l k) (incoming_at r k)
 
 -- what only rises at a receiver
@@ -63,12 +63,12 @@ pub rise_join : (r s t : Receiving) → Rise r s → Rise s t → Rise r t
 rise_join r s t f g k = (let a : (incoming_at r k).highest ≤ (incoming_at s k).highest = (f k).0 in let b : (incoming_at s k).highest ≤ (incoming_at t k).highest = (g k).0 in omega arith, λ e. (g k).1 ((f k).1 e))
 
 -- frames of a packet that was sent, and those of one that was accepted
-abbrev pub FrameSound : (ℕ → Ledger) → Receiving → Known → Type 0
+abbrev pub FrameSound : (ℕ → StreamLog) → Receiving → Known → Type 0
 FrameSound l r (StreamClose k code message) = (code ≡ 1 → ((l k).clean ≡ true) × (length (l k).written ≤ (incoming_at r k).highest)) × (code ≢ 1 → (l k).aborted ≡ true)
 FrameSound l r (ConnectionClose code message) = ⊥
 FrameSound l r _ = Unit {0}
 
-abbrev pub FramesSound : (ℕ → Ledger) → Receiving → List Known → Type 0
+abbrev pub FramesSound : (ℕ → StreamLog) → Receiving → List Known → Type 0
 FramesSound l r fs = AllByRecursion (FrameSound l r) fs
 
 abbrev pub FrameTaken : Receiving → Known → Type 0
@@ -99,11 +99,11 @@ taken_rise r t [] rise h = tt
 taken_rise r t (f ∷ fs) rise h = (frame_rise r t f rise h.0, taken_rise r t fs rise h.1)
 
 -- the same of frames that were in flight
-abbrev pub FlownTaken : Receiving → Flown → Type 0
+abbrev pub FlownTaken : Receiving → SentFrame → Type 0
 FlownTaken r (Data k o n) = (is_some (incoming_at r k).held.aborted ≡ true) ⊎ ((i : ℕ) → i < n → o + i < (incoming_at r k).highest)
 FlownTaken r (Whole f) = Unit {0}
 
-abbrev pub AllFlownTaken : Receiving → List Flown → Type 0
+abbrev pub AllFlownTaken : Receiving → List SentFrame → Type 0
 AllFlownTaken r fs = AllByRecursion (FlownTaken r) fs
 
 frame_flown : (r : Receiving) (f : Known) → FrameTaken r f → FlownTaken r (flown f)
@@ -124,18 +124,18 @@ taken_flown r [] h = tt
 taken_flown r (f ∷ fs) h = (frame_flown r f h.0, taken_flown r fs h.1)
 
 -- later states of ledgers and receivers
-pub record Onward (l m : ℕ → Ledger) (r t : Receiving) : Type 0 where
+pub record Onward (l m : ℕ → StreamLog) (r t : Receiving) : Type 0 where
   pub clean : (k : ℕ) → (l k).clean ≡ true → ((m k).clean ≡ true) × ((m k).written ≡ (l k).written)
   pub aborted : (k : ℕ) → (l k).aborted ≡ true → (m k).aborted ≡ true
   pub rise : Rise r t
 
-close_onward : (l m : ℕ → Ledger) (r t : Receiving) (k code : ℕ) (message : List ℕ) → Onward l m r t → FrameSound l r (StreamClose k code message) → FrameSound m t (StreamClose k code message)
+close_onward : (l m : ℕ → StreamLog) (r t : Receiving) (k code : ℕ) (message : List ℕ) → Onward l m r t → FrameSound l r (StreamClose k code message) → FrameSound m t (StreamClose k code message)
 close_onward l m r t k code message o h = (
   λ e. let x = h.0 e in let y = o.clean k x.0 in (y.0, let a : (incoming_at r k).highest ≤ (incoming_at t k).highest = (o.rise k).0 in let b : length (l k).written ≤ (incoming_at r k).highest = x.1 in let c : length (m k).written ≡ length (l k).written = ap (λ z. length z) y.1 in omega arith),
   λ n. o.aborted k (h.1 n),
 )
 
-frame_onward : (l m : ℕ → Ledger) (r t : Receiving) (f : Known) → Onward l m r t → FrameSound l r f → FrameSound m t f
+frame_onward : (l m : ℕ → StreamLog) (r t : Receiving) (f : Known) → Onward l m r t → FrameSound l r f → FrameSound m t f
 frame_onward l m r t (StreamData k a xs) o h = tt
 frame_onward l m r t (StreamMoney k n) o h = tt
 frame_onward l m r t (StreamClose k code message) o h = close_onward l m r t k code message o h
@@ -148,15 +148,15 @@ frame_onward l m r t (StreamMaxMoney k n u) o h = tt
 frame_onward l m r t (ConnectionClose code message) o h = absurd h
 frame_onward l m r t (ConnectionNewAddress address) o h = tt
 
-pub sound_onward : (l m : ℕ → Ledger) (r t : Receiving) (fs : List Known) → Onward l m r t → FramesSound l r fs → FramesSound m t fs
+pub sound_onward : (l m : ℕ → StreamLog) (r t : Receiving) (fs : List Known) → Onward l m r t → FramesSound l r fs → FramesSound m t fs
 sound_onward l m r t [] o h = tt
 sound_onward l m r t (f ∷ fs) o h = (frame_onward l m r t f o h.0, sound_onward l m r t fs o h.1)
 
-pub rise_onward : (l : ℕ → Ledger) (r t : Receiving) → Rise r t → Onward l l r t
+pub rise_onward : (l : ℕ → StreamLog) (r t : Receiving) → Rise r t → Onward l l r t
 rise_onward l r t rise = record { clean = λ k e. (e, refl); aborted = λ k e. e; rise = rise }
 
 -- a receiver's stream replaced
-pub in-with : (l : ℕ → Ledger) (r : Receiving) (k : ℕ) (x : Incoming) → RecvWhole l r → InWhole (l k) x → RecvWhole l (with_incoming r k x)
+pub in-with : (l : ℕ → StreamLog) (r : Receiving) (k : ℕ) (x : Incoming) → RecvWhole l r → InWhole (l k) x → RecvWhole l (with_incoming r k x)
 in-with l r k x h here j =
     elim (incoming_cases r k x j) [
       | inl e ↦ rw e.0 (let P : Incoming → Type 0 = λ y. InWhole (l k) y in subst P (sym e.1) here)
@@ -184,7 +184,7 @@ alike_with r t k x a b h j =
 pub alike_same : (r : Receiving) → Alike r r
 alike_same r k = (refl, refl)
 
-in_alike : (l : Ledger) (x y : Incoming) → y.held ≡ x.held → y.highest ≡ x.highest → InWhole l x → InWhole l y
+in_alike : (l : StreamLog) (x y : Incoming) → y.held ≡ x.held → y.highest ≡ x.highest → InWhole l x → InWhole l y
 in_alike l x y a b h = record {
   ends = λ n e. let f = h.ends n (ap (λ (z : Held). z.end) (sym a) ∙ e) in (f.0, b ∙ f.1, f.2);
   drops = λ e. h.drops (ap (λ (z : Held). is_some z.aborted) (sym a) ∙ e);
@@ -195,7 +195,7 @@ in_alike l x y a b h = record {
       subst P (sym a) (subst Q (sym b) (h.past (ap is_over (sym a) ∙ o)));
 }
 
-pub alike_whole : (l : ℕ → Ledger) (r t : Receiving) → Alike r t → RecvWhole l r → RecvWhole l t
+pub alike_whole : (l : ℕ → StreamLog) (r t : Receiving) → Alike r t → RecvWhole l r → RecvWhole l t
 alike_whole l r t a h k = in_alike (l k) (incoming_at r k) (incoming_at t k) (a k).0 (a k).1 (h k)
 
 pub alike_rise : (r t : Receiving) → Alike r t → Rise r t
@@ -221,7 +221,7 @@ over_none : (e a : Option ℕ) → (is_some e || is_some a) ≡ false → (e ≡
 over_none (Some n) a h = absurd (cc)
 over_none None a h = (refl, h)
 
-data_highest : (b : Bool) (l : Ledger) (x : Incoming) (o : ℕ) (xs : List ℕ) → (is_over x.held || nat_eq (length xs) 0) ≡ b → InWhole l x → Within l.written o xs
+data_highest : (b : Bool) (l : StreamLog) (x : Incoming) (o : ℕ) (xs : List ℕ) → (is_over x.held || nat_eq (length xs) 0) ≡ b → InWhole l x → Within l.written o xs
     → let n = cond b x.highest (max x.highest (o + length xs)) in (n ≤ length l.written) × (x.highest ≤ n) × ((m : ℕ) → x.held.end ≡ Some m → n ≡ x.highest) × ((is_some x.held.aborted ≡ true) ⊎ ((i : ℕ) → i < length xs → o + i < n))
 data_highest true l x o xs e h w = (
   h.within,
@@ -243,7 +243,7 @@ data_highest false l x o xs e h w =
     let b : x.highest ≤ length l.written = h.within in
     (grind (arith), grind (arith), λ m g. absurd (let none : x.held.end ≡ None = (over_none x.held.end x.held.aborted f.0).0 in cc), inr (λ i s. grind (arith)))
 
-data_in : (l : Ledger) (x : Incoming) (o : ℕ) (xs : List ℕ) → InWhole l x → Within l.written o xs → InWhole l (with_data o xs x) × RisesAt x (with_data o xs x) × ((is_some (with_data o xs x).held.aborted ≡ true) ⊎ ((i : ℕ) → i < length xs → o + i < (with_data o xs x).highest))
+data_in : (l : StreamLog) (x : Incoming) (o : ℕ) (xs : List ℕ) → InWhole l x → Within l.written o xs → InWhole l (with_data o xs x) × RisesAt x (with_data o xs x) × ((is_some (with_data o xs x).held.aborted ≡ true) ⊎ ((i : ℕ) → i < length xs → o + i < (with_data o xs x).highest))
 data_in l x o xs h w =
     let d = data_highest (is_over x.held || nat_eq (length xs) 0) l x o xs refl h w in
     let end : (after_insert o xs x.held).end ≡ x.held.end = insert_keeps (λ (g : Held). g.end) (λ g b. refl) xs x.held o in
@@ -260,7 +260,7 @@ data_in l x o xs h w =
     )
 
 -- the receiver is right, has risen, and has accepted these frames
-pub record Good (l : ℕ → Ledger) (r : Receiving) (fs : List Known) (t : Receiving) : Type 0 where
+pub record Good (l : ℕ → StreamLog) (r : Receiving) (fs : List Known) (t : Receiving) : Type 0 where
   pub recv : RecvWhole l t
   pub rise : Rise r t
   pub taken : FramesTaken t fs
@@ -275,7 +275,7 @@ in_range k c e = grind (arith, common_steps, nat_tests)
 named_small : (r : Receiving) (k : ℕ) → stream_fault r k ≡ None → k < 65
 named_small r k e = in_range k _ (named_if (may_name r k) _ e)
 
-data_good : (l : ℕ → Ledger) (r : Receiving) (k o : ℕ) (xs : List ℕ) → k < length r.streams → RecvWhole l r → Within (l k).written o xs → Good l r (StreamData k o xs ∷ []) (after_data r k o xs)
+data_good : (l : ℕ → StreamLog) (r : Receiving) (k o : ℕ) (xs : List ℕ) → k < length r.streams → RecvWhole l r → Within (l k).written o xs → Good l r (StreamData k o xs ∷ []) (after_data r k o xs)
 data_good l r k o xs small h w =
     let d = data_in (l k) (incoming_at r k) o xs (h k) w in
     record {
@@ -284,15 +284,15 @@ data_good l r k o xs small h w =
       taken = (let P : Incoming → Type 0 = λ y. (is_some y.held.aborted ≡ true) ⊎ ((i : ℕ) → i < length xs → o + i < y.highest) in subst P (sym (incoming_here r k (with_data o xs (incoming_at r k)) small)) d.2, tt);
     }
 
-same_good : (l : ℕ → Ledger) (r : Receiving) (f : Known) → FrameTaken r f → RecvWhole l r → Good l r (f ∷ []) r
+same_good : (l : ℕ → StreamLog) (r : Receiving) (f : Known) → FrameTaken r f → RecvWhole l r → Good l r (f ∷ []) r
 same_good l r f t h = record { recv = h; rise = rise_same r; taken = (t, tt) }
 
-open_good : (l : ℕ → Ledger) (r : Receiving) (k : ℕ) (f : Known) → FrameTaken (opened_stream r k) f → RecvWhole l r → Good l r (f ∷ []) (opened_stream r k)
+open_good : (l : ℕ → StreamLog) (r : Receiving) (k : ℕ) (f : Known) → FrameTaken (opened_stream r k) f → RecvWhole l r → Good l r (f ∷ []) (opened_stream r k)
 open_good l r k f t h =
     let a = alike_with r r k (incoming_at r k) refl refl (alike_same r) in
     record { recv = alike_whole l r (opened_stream r k) a h; rise = alike_rise r (opened_stream r k) a; taken = (t, tt) }
 
-frame_good : (l : ℕ → Ledger) (r : Receiving) (f : Known) → length r.streams ≡ 65 → frame_fault r f ≡ None → RecvWhole l r → FrameFine (λ k. (l k).written) f → Good l r (f ∷ []) (after_frame r f)
+frame_good : (l : ℕ → StreamLog) (r : Receiving) (f : Known) → length r.streams ≡ 65 → frame_fault r f ≡ None → RecvWhole l r → FrameFine (λ k. (l k).written) f → Good l r (f ∷ []) (after_frame r f)
 frame_good l r (StreamData k o xs) wide none h w =
     let small : k < 65 = named_small r k (or_none (stream_fault r k) (data_fault r k o xs) none).0 in
     data_good l r k o xs (rw wide small) h w
@@ -307,7 +307,7 @@ frame_good l r (StreamMaxMoney k n u) wide none h w = same_good l r (StreamMaxMo
 frame_good l r (ConnectionClose code message) wide none h w = same_good l r (ConnectionClose code message) tt h
 frame_good l r (ConnectionNewAddress address) wide none h w = same_good l r (ConnectionNewAddress address) tt h
 
-frames_good : (l : ℕ → Ledger) (fs : List Known) (r : Receiving) → length r.streams ≡ 65 → frames_fault r fs ≡ None → RecvWhole l r → FramesFine (λ k. (l k).written) fs → Good l r fs (after_frames r fs)
+frames_good : (l : ℕ → StreamLog) (fs : List Known) (r : Receiving) → length r.streams ≡ 65 → frames_fault r fs ≡ None → RecvWhole l r → FramesFine (λ k. (l k).written) fs → Good l r fs (after_frames r fs)
 unfolding frames_fault after_frames
 frames_good l [] r wide none h w = record { recv = h; rise = rise_same r; taken = tt }
 frames_good l (f ∷ fs) r wide none h w =
@@ -331,7 +331,7 @@ money_alike : (r : Receiving) (amount : ℕ) (fs : List Known) → Alike r (afte
 money_alike r amount fs k = (money_keeps held_in (λ x n. refl) r amount fs k, money_keeps highest_in (λ x n. refl) r amount fs k)
 
 -- closes
-finish_in : (b : Bool) (l : Ledger) (x : Incoming) → is_over x.held ≡ b → l.clean ≡ true → length l.written ≤ x.highest → InWhole l x → InWhole l (record x { held = cond b x.held (record x.held { end = Some (past_all x.held) }) })
+finish_in : (b : Bool) (l : StreamLog) (x : Incoming) → is_over x.held ≡ b → l.clean ≡ true → length l.written ≤ x.highest → InWhole l x → InWhole l (record x { held = cond b x.held (record x.held { end = Some (past_all x.held) }) })
 finish_in true l x e c s h = record { ends = h.ends; drops = h.drops; within = h.within; past = h.past }
 finish_in false l x e c s h =
     let a : x.highest ≤ length l.written = h.within in
@@ -339,7 +339,7 @@ finish_in false l x e c s h =
     let fixed : past_all x.held ≡ x.highest = past_is x.held x.highest (h.past e) in
     record { ends = λ n f. (let g : past_all x.held ≡ n = cc in sym g ∙ fixed ∙ same, same, c); drops = h.drops; within = h.within; past = λ o. absurd (cc) }
 
-abort_in : (b : Bool) (l : Ledger) (x : Incoming) (code : ℕ) → l.aborted ≡ true → InWhole l x → InWhole l (record x { held = cond b x.held (record x.held { bytes = fmap.empty; aborted = Some code }) })
+abort_in : (b : Bool) (l : StreamLog) (x : Incoming) (code : ℕ) → l.aborted ≡ true → InWhole l x → InWhole l (record x { held = cond b x.held (record x.held { bytes = fmap.empty; aborted = Some code }) })
 abort_in true l x code c h = record { ends = h.ends; drops = h.drops; within = h.within; past = h.past }
 abort_in false l x code c h = record { ends = h.ends; drops = λ e. c; within = h.within; past = λ o. absurd (let z : is_over (record x.held { bytes = fmap.empty; aborted = Some code }) ≡ true = or_right (is_some x.held.end) in cc) }
 
@@ -351,17 +351,17 @@ abort_rise : (b : Bool) (x : Incoming) (code : ℕ) → RisesAt x (record x { he
 abort_rise true x code = (omega arith, λ e. e)
 abort_rise false x code = (omega arith, λ e. refl)
 
-close_in : (b : Bool) (l : Ledger) (x : Incoming) (code : ℕ) → nat_eq code 1 ≡ b → (code ≡ 1 → (l.clean ≡ true) × (length l.written ≤ x.highest)) → (code ≢ 1 → l.aborted ≡ true) → InWhole l x
+close_in : (b : Bool) (l : StreamLog) (x : Incoming) (code : ℕ) → nat_eq code 1 ≡ b → (code ≡ 1 → (l.clean ≡ true) × (length l.written ≤ x.highest)) → (code ≢ 1 → l.aborted ≡ true) → InWhole l x
     → let y = record x { held = cond b (after_finish x.held) (after_abort code x.held) } in InWhole l y × RisesAt x y
 close_in true l x code e c a h = let k = c (grind (arith)) in (finish_in (is_over x.held) l x refl k.0 k.1 h, finish_rise (is_over x.held) x)
 close_in false l x code e c a h = (abort_in (is_over x.held) l x code (a (grind (arith))) h, abort_rise (is_over x.held) x code)
 
-close_stream : (l : ℕ → Ledger) (r : Receiving) (k code : ℕ) (message : List ℕ) → RecvWhole l r → FrameSound l r (StreamClose k code message) → RecvWhole l (after_close r (StreamClose k code message)) × Rise r (after_close r (StreamClose k code message))
+close_stream : (l : ℕ → StreamLog) (r : Receiving) (k code : ℕ) (message : List ℕ) → RecvWhole l r → FrameSound l r (StreamClose k code message) → RecvWhole l (after_close r (StreamClose k code message)) × Rise r (after_close r (StreamClose k code message))
 close_stream l r k code message h f =
     let c = close_in (nat_eq code 1) (l k) (incoming_at r k) code refl f.0 f.1 (h k) in
     (in-with l r k (with_close code (incoming_at r k)) h c.0, rise-with r k (with_close code (incoming_at r k)) c.1)
 
-close_frame : (l : ℕ → Ledger) (r : Receiving) (f : Known) → RecvWhole l r → FrameSound l r f → RecvWhole l (after_close r f) × Rise r (after_close r f)
+close_frame : (l : ℕ → StreamLog) (r : Receiving) (f : Known) → RecvWhole l r → FrameSound l r f → RecvWhole l (after_close r f) × Rise r (after_close r f)
 close_frame l r (StreamData k o xs) h s = (h, rise_same r)
 close_frame l r (StreamMoney k n) h s = (h, rise_same r)
 close_frame l r (StreamClose k code message) h s = close_stream l r k code message h s
@@ -374,7 +374,7 @@ close_frame l r (StreamMaxMoney k n u) h s = (h, rise_same r)
 close_frame l r (ConnectionClose code message) h s = (h, rise_same r)
 close_frame l r (ConnectionNewAddress address) h s = (h, rise_same r)
 
-close_frames : (l : ℕ → Ledger) (fs : List Known) (r : Receiving) → RecvWhole l r → FramesSound l r fs → RecvWhole l (after_closes r fs) × Rise r (after_closes r fs)
+close_frames : (l : ℕ → StreamLog) (fs : List Known) (r : Receiving) → RecvWhole l r → FramesSound l r fs → RecvWhole l (after_closes r fs) × Rise r (after_closes r fs)
 unfolding after_closes
 close_frames l [] r h s = (h, rise_same r)
 close_frames l (f ∷ fs) r h s =
@@ -382,7 +382,7 @@ close_frames l (f ∷ fs) r h s =
     let d = close_frames l fs (after_close r f) c.0 (sound_onward l l r (after_close r f) fs (rise_onward l r (after_close r f) c.1) s.1) in
     (d.0, rise_join r (after_close r f) (after_closes (after_close r f) fs) c.1 d.1)
 
-no_close : (l : ℕ → Ledger) (q : Receiving) (fs : List Known) (r : Receiving) → FramesSound l q fs → after_connection_closes r fs ≡ r
+no_close : (l : ℕ → StreamLog) (q : Receiving) (fs : List Known) (r : Receiving) → FramesSound l q fs → after_connection_closes r fs ≡ r
 unfolding after_connection_closes
 no_close l q [] r s = refl
 no_close l q (StreamData k o xs ∷ fs) r s = no_close l q fs r s.1
@@ -397,7 +397,7 @@ no_close l q (StreamMaxMoney k n u ∷ fs) r s = no_close l q fs r s.1
 no_close l q (ConnectionClose code message ∷ fs) r s = absurd s.0
 no_close l q (ConnectionNewAddress address ∷ fs) r s = no_close l q fs r s.1
 
-pub effect_good : (l : ℕ → Ledger) (r : Receiving) (p : Packet) (amount : ℕ) → length r.streams ≡ 65 → frames_fault r (frames_of p) ≡ None → RecvWhole l r → FramesSound l r (frames_of p) → FramesFine (λ k. (l k).written) (frames_of p) → Good l r (frames_of p) (effect r p amount)
+pub effect_good : (l : ℕ → StreamLog) (r : Receiving) (p : Packet) (amount : ℕ) → length r.streams ≡ 65 → frames_fault r (frames_of p) ≡ None → RecvWhole l r → FramesSound l r (frames_of p) → FramesFine (λ k. (l k).written) (frames_of p) → Good l r (frames_of p) (effect r p amount)
 effect_good l r p amount wide none h s w =
     let fs = frames_of p in
     let a = after_frames r fs in

@@ -3,20 +3,20 @@ use Rattle.std.specs.Prelude.{◌≡◌, ◌⊎◌, ℕ, ℤ, Bool, true, false,
 use Rattle.std.specs.Ordering.{nat_cmp}
 use Rattle.std.specs.FinMap as fmap
 use Rattle.st_world_parts.specs.Sides.{Side, Both}
-use Rattle.st_world_parts.specs.Ledgers.{Ledger}
-use Rattle.st_world_parts.specs.State.{World, Party, Node, Lane, Put, Place}
+use Rattle.st_world_parts.specs.StreamLogs.{StreamLog}
+use Rattle.st_world_parts.specs.State.{World, Party, Node, Direction, SentPrepare, Place}
 use Rattle.st_world_parts.specs.Events.{Event, OpenStream, Write, Read, Close, Abort, Offer, ReceiveMax, Send, Arrive, AnswerArrives, Fault, Crash, Refused, Told, NoMemory}
-use Rattle.st_world.specs.Steps.{ArrivesAt, RefusesAt, noted}
+use Rattle.st_world.specs.Steps.{ArrivesAt, RefusesAt, with_refusal}
 use Rattle.st_world.specs.Runs.{Chain, Run, opening}
 use Rattle.st_world.specs.Holds.{Holds}
 
 pub record Left : Type 0 where
   pub ends : Both Party
   pub nodes : List Node
-  pub ledgers : Both (fmap.FinMap nat_cmp Ledger)
+  pub ledgers : Both (fmap.FinMap nat_cmp StreamLog)
   pub refused : Bool
 
-abbrev pub in_world : Left → List (Both Lane) → World
+abbrev pub in_world : Left → List (Both Direction) → World
 in_world t ls = record { ends = t.ends; nodes = t.nodes; links = ls; ledgers = t.ledgers; refused = t.refused }
 
 abbrev pub left_of : World → Left
@@ -45,10 +45,10 @@ MayLack (Crash i) = Unit {0}
 MayLack Refused = Unit {0}
 
 -- a Prepare that is there comes to this place
-abbrev pub MeetsAt : World → (link : ℕ) → (way : Side) → (which : ℕ) → (now : ℤ) → Put → Place → Told → World → Type 0
+abbrev pub MeetsAt : World → (link : ℕ) → (way : Side) → (which : ℕ) → (now : ℤ) → SentPrepare → Place → Told → World → Type 0
 MeetsAt w link way which now p place told after =
     ArrivesAt w link way which now p place told after
-    ⊎ ((mid : World) × (told ≡ NoMemory) × RefusesAt w link way which now p place mid × (after ≡ noted mid))
+    ⊎ ((mid : World) × (told ≡ NoMemory) × RefusesAt w link way which now p place mid × (after ≡ with_refusal mid))
 
 -- a world that some run from an opening reaches
 abbrev pub IsReached : World → Type 0

@@ -11,7 +11,7 @@ use Rattle.st_end.specs.declared.role.Role as ends
 use Rattle.st_end.specs.declared.role.Role.TheVariants as roles
 use Rattle.st_end.specs.State.{EndState, new_end}
 use Rattle.st_world_parts.specs.Sides.{Side, Client, Server}
-use Rattle.st_world_parts.specs.State.{new_party, Party, Node, World, no_lanes}
+use Rattle.st_world_parts.specs.State.{new_party, Party, Node, World, empty_link}
 use Rattle.st_world_parts.specs.Events.{Event, Told}
 use Rattle.st_world.specs.Steps.{Happens}
 
@@ -30,7 +30,7 @@ abbrev pub accounts_of : Table → List Account
 accounts_of t = t.client ∷ t.server ∷ []
 
 abbrev pub new_node : Table → Node
-new_node t = record { state = new_hop t.own (accounts_of t) t.routes; bag = [] }
+new_node t = record { state = new_hop t.own (accounts_of t) t.routes; answered = [] }
 
 pub record Chain : Type 0 where
   pub secret : List ℕ  -- of both ends
@@ -59,7 +59,7 @@ opening c = record {
     server = new_party (new_end (role_of Server) (keys_of c.secret) c.server c.client c.config);
   };
   nodes = map new_node c.hops;
-  links = replicate (length c.hops + 1) no_lanes;
+  links = replicate (length c.hops + 1) empty_link;
   ledgers = record { client = fmap.empty; server = fmap.empty };
   refused = false;
 }

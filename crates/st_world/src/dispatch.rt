@@ -13,7 +13,7 @@ ghost use Rattle.st_world.specs.Left.{in_world, MeetsAt};
 use crate::trace::Trace;
 use st_ilp::Moment;
 use st_links::Outcome;
-use st_world_parts::{Link, Put, Side, Told, Way, copy_given, copy_put};
+use st_world_parts::{Link, SentPrepare, Side, Told, Way, copy_given, copy_put};
 use std::alloc::{AllocError, Allocator};
 
 impl<A: Allocator + Copy> Trace<A> {
@@ -23,7 +23,7 @@ impl<A: Allocator + Copy> Trace<A> {
         links: &mut [Link<A>],
         link: usize,
         which: usize,
-        put: &Put<A>,
+        put: &SentPrepare<A>,
         now: Moment,
     ) -> Result<Told<A>, AllocError>
         requires within { link < length links.old }
@@ -47,7 +47,7 @@ impl<A: Allocator + Copy> Trace<A> {
         links: &mut [Link<A>],
         link: usize,
         which: usize,
-        put: &Put<A>,
+        put: &SentPrepare<A>,
         now: Moment,
     ) -> Result<Told<A>, AllocError>
         requires within { link < length links.old }
@@ -101,7 +101,7 @@ impl<A: Allocator + Copy> Trace<A> {
         links: &mut [Link<A>],
         link: usize,
         which: usize,
-        put: &Put<A>,
+        put: &SentPrepare<A>,
         outcome: Outcome<A>,
         now: Moment,
     ) -> Result<Told<A>, AllocError>
@@ -127,7 +127,7 @@ impl<A: Allocator + Copy> Trace<A> {
         links: &mut [Link<A>],
         link: usize,
         which: usize,
-        put: &Put<A>,
+        put: &SentPrepare<A>,
         outcome: Outcome<A>,
         now: Moment,
     ) -> Result<Told<A>, AllocError>
@@ -159,7 +159,7 @@ impl<A: Allocator + Copy> Trace<A> {
         now: Moment,
     ) -> Result<Told<A>, AllocError>
         requires { length links.old ≡ length self.old.nodes + 1 }
-        ensures met { IfOk result (λ told. Back (in_world self.old links.old) link (way_seen way) which now (outcome_seen outcome) (nth (lane_in links.old link (way_seen way)).puts put) (told_seen told) (in_world self.new links.new)) }
+        ensures met { IfOk result (λ told. Back (in_world self.old links.old) link (way_seen way) which now (outcome_seen outcome) (nth (lane_in links.old link (way_seen way)).prepares put) (told_seen told) (in_world self.new links.new)) }
         ensures same_self { OnErr result (self.new ≡ self.old) }
         ensures same_links { OnErr result (links.new ≡ links.old) }
         ensures nodes { length self.new.nodes ≡ length self.old.nodes }

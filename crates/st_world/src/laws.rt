@@ -6,9 +6,9 @@ ghost use Rattle.st_hop.specs.Hop.{Hop};
 ghost use Rattle.st_hop.specs.Lawful.{IsLawful};
 ghost use Rattle.st_hop.specs.Arriving.{Forwards, arrived};
 ghost use Rattle.st_world_parts.specs.Sides.{Side, Client};
-ghost use Rattle.st_world_parts.specs.State.{World, Node, AtHop, lane_at, near, ledger_at, account_from, account_to};
+ghost use Rattle.st_world_parts.specs.State.{World, Node, AtHop, direction_at, near, log_at, account_from, account_to};
 ghost use Rattle.st_world_parts.specs.Events.{Event, OpenStream, Close, Crash, Told, Silent, IsEvent};
-ghost use Rattle.st_world.specs.Steps.{Step, noted};
+ghost use Rattle.st_world.specs.Steps.{Step, with_refusal};
 ghost use Rattle.st_world.specs.Runs.{Chain, is_chain, Run, opening};
 ghost use Rattle.st_world.specs.Holds.{Holds, StaysRead};
 ghost use Rattle.st_world.specs.Crashes.{LosesTickets, WasPut, HasNoTicket, HasTicket, IsLost, FulfillsOnce, pending_to, fulfilled_due};
@@ -26,7 +26,7 @@ ghost use Rattle.st_end.specs.Receiving.{prepare_in};
 /// Once a read gave the end or an abort of a stream, no run reads more of it.
 pub fn every_run_holds()
     ensures holds { (c : Chain) (events : List Event) (w : World) → Run (opening c) events w → Holds w }
-    ensures stays { (c : Chain) (events more : List Event) (w v : World) → Run (opening c) events w → Run w more v → (side : Side) (k : ℕ) → StaysRead (ledger_at w side k) (ledger_at v side k) }
+    ensures stays { (c : Chain) (events more : List Event) (w v : World) → Run (opening c) events w → Run w more v → (side : Side) (k : ℕ) → StaysRead (log_at w side k) (log_at v side k) }
 {}
 
 /// A crash of a hop costs its open tickets, and no more. It is possible at any moment (`any_moment`).
@@ -47,7 +47,7 @@ pub fn crashes_cost_open_tickets()
 /// All Fulfills that are ever sent for the Prepares that are pending at a hop towards one neighbour are together at most
 /// the amount that is pending there. After a crash none of them is booked, so a crash costs at most that amount.
 pub fn what_is_pending_bounds_the_cost()
-    ensures { (c : Chain) (events more : List Event) (w u : World) → Run (opening c) events w → Run w more u → (link i : ℕ) (way : Side) (n : Node) → link < length w.nodes + 1 → near w link way ≡ AtHop i → slice_get w.nodes i ≡ Some n → sum_by (fulfilled_due n.state.tickets (lane_at w link way).puts) (lane_at u link way).given ≤ pending_to n.state (account_to way) }
+    ensures { (c : Chain) (events more : List Event) (w u : World) → Run (opening c) events w → Run w more u → (link i : ℕ) (way : Side) (n : Node) → link < length w.nodes + 1 → near w link way ≡ AtHop i → slice_get w.nodes i ≡ Some n → sum_by (fulfilled_due n.state.tickets (direction_at w link way).prepares) (direction_at u link way).given ≤ pending_to n.state (account_to way) }
 {}
 
 /// On no link is a Prepare fulfilled twice, whatever is repeated. So two neighbours differ by at most its amount for one
@@ -60,7 +60,7 @@ pub fn prepares_are_fulfilled_once()
 /// was, and one whose call did sets it.
 pub fn want_of_memory_is_noted()
     ensures met { (c : Chain) (events : List Event) (w : World) → Run (opening c) events w → (event : Event) (told : Told) (v : World) → IsEvent event → Step w event told v → v.refused ≡ w.refused }
-    ensures refused { (w : World) → (noted w).refused ≡ true }
+    ensures refused { (w : World) → (with_refusal w).refused ≡ true }
 {}
 
 /// In every run from the start of a lawful chain each hop stays lawful and has two accounts: each account is within its
@@ -76,5 +76,5 @@ pub fn prepares_go_across()
 
 /// Runs exist: over any chain the client may open its stream 1 and close it.
 pub fn streams_open_and_close()
-    ensures { (c : Chain) → (w : World) × Run (opening c) (OpenStream Client ∷ Close Client 1 ∷ []) w × ((ledger_at w Client 1).clean ≡ true) × (w.refused ≡ false) }
+    ensures { (c : Chain) → (w : World) × Run (opening c) (OpenStream Client ∷ Close Client 1 ∷ []) w × ((log_at w Client 1).clean ≡ true) × (w.refused ≡ false) }
 {}

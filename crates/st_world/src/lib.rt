@@ -37,6 +37,6 @@ pub use st_ilp::Moment;
 pub use st_oer::Rate;
 pub use st_receiver::Got;
 pub use st_sender::EndConfig;
-pub use st_world_parts::{EndEntry, Given, HopEntry, Ledger, Node, Party, Put, Side, Told, Way};
+pub use st_world_parts::{AnsweredAtEnd, SentAnswer, AnsweredAtHop, StreamLog, Node, Party, SentPrepare, Side, Told, Way};
 pub use trace::Trace;
 pub use world::World;

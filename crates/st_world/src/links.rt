@@ -9,7 +9,7 @@ ghost use Rattle.st_world.specs.Places.{LinkSends, LinkMet, LinkBack, HopsMet, H
 use st_ilp::Moment;
 use st_links::Outcome;
 use st_world_parts::{
-    Link, Node, Party, Put, Told, Way, arrive_at, arrive_at_end, send_from, settle_at,
+    Link, Node, Party, SentPrepare, Told, Way, arrive_at, arrive_at_end, send_from, settle_at,
     settle_at_end,
 };
 use std::alloc::{AllocError, Allocator};
@@ -75,7 +75,7 @@ pub(crate) fn back_to_end<A: Allocator + Copy>(
     links: &mut [Link<A>],
     link: usize,
     way: Way,
-    put: &Put<A>,
+    put: &SentPrepare<A>,
     which: usize,
     outcome: Outcome<A>,
 ) -> Told<A>
@@ -152,7 +152,7 @@ pub(crate) fn back_to_hop_up<A: Allocator + Copy>(
     node: &mut Node<A>,
     links: &mut [Link<A>],
     link: usize,
-    put: &Put<A>,
+    put: &SentPrepare<A>,
     which: usize,
     outcome: Outcome<A>,
     now: Moment,
@@ -182,7 +182,7 @@ pub(crate) fn back_to_hop_down<A: Allocator + Copy>(
     node: &mut Node<A>,
     links: &mut [Link<A>],
     link: usize,
-    put: &Put<A>,
+    put: &SentPrepare<A>,
     which: usize,
     outcome: Outcome<A>,
     now: Moment,

@@ -5,7 +5,7 @@ ghost use Rattle.std.specs.List.{list_all};
 ghost use Rattle.st_hop.specs.Table.{is_account};
 ghost use Rattle.st_keys.specs.Keys.{keys_of};
 ghost use Rattle.st_end.specs.State.{new_end};
-ghost use Rattle.st_world_parts.specs.State.{no_lanes};
+ghost use Rattle.st_world_parts.specs.State.{empty_link};
 ghost use Rattle.st_world_parts.specs.State.{new_party};
 ghost use Rattle.st_world.specs.Runs.{new_node, is_chain, opening};
 ghost use Rattle.st_world.specs.Left.{left_of};
@@ -19,7 +19,7 @@ use st_hop::{Account, HopError, Route};
 use st_keys::Keys;
 use st_oer::Rate;
 use st_sender::EndConfig;
-use st_world_parts::{Ledgers, Link, Node, Party};
+use st_world_parts::{StreamLogs, Link, Node, Party};
 use std::alloc::{AllocError, Allocator};
 
 /// The greatest number of hops of a chain: 8.
@@ -132,7 +132,7 @@ fn hops_of<A: Allocator + Copy>(
 
 /// `count` empty links.
 fn links_of<A: Allocator + Copy>(alloc: A, count: usize) -> Result<Vec<Link<A>, A>, AllocError>
-    ensures { IfOk result (λ ls. ls.items ≡ replicate count no_lanes) }
+    ensures { IfOk result (λ ls. ls.items ≡ replicate count empty_link) }
 {
     let mut links = Vec::with_capacity(alloc, count)?;
     for link in 0..count {
@@ -197,8 +197,8 @@ fn nothing_left<A: Allocator + Copy>(
     requires lawful { list_all (λ t. is_account t.0) terms.now ≡ true }
     ensures { IfOk result (λ t. t ≡ left_of (opening (chain_of terms.now config))) }
 {
-    let from_client = Ledgers::new(alloc)?;
-    let from_server = Ledgers::new(alloc)?;
+    let from_client = StreamLogs::new(alloc)?;
+    let from_server = StreamLogs::new(alloc)?;
     let nodes = hops_of(alloc, terms)?;
     let (client, server) = ends_of(alloc, config)?;
     Ok(Trace {

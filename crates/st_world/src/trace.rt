@@ -16,7 +16,7 @@ use crate::links::{
 use st_ilp::Moment;
 use st_links::Outcome;
 use st_world_parts::{
-    Ledgers, Link, Node, Party, Put, Side, Told, Way, abort_at, close_at, offer_at, open_at,
+    StreamLogs, Link, Node, Party, SentPrepare, Side, Told, Way, abort_at, close_at, offer_at, open_at,
     raise_at, read_at, write_at,
 };
 use std::alloc::{AllocError, Allocator};
@@ -30,9 +30,9 @@ pub struct Trace<A: Allocator + Copy> {
     pub(crate) server: Party<A>,
     pub(crate) nodes: Vec<Node<A>, A>,
     /// Of the streams as the client writes them.
-    pub(crate) from_client: Ledgers<A>,
+    pub(crate) from_client: StreamLogs<A>,
     /// And as the server does.
-    pub(crate) from_server: Ledgers<A>,
+    pub(crate) from_server: StreamLogs<A>,
     pub(crate) refused: bool,
     pub(crate) alloc: A,
 }
@@ -234,7 +234,7 @@ impl<A: Allocator + Copy> Trace<A> {
         links: &mut [Link<A>],
         link: usize,
         which: usize,
-        put: &Put<A>,
+        put: &SentPrepare<A>,
         now: Moment,
     ) -> Result<Told<A>, AllocError>
         requires { link < length links.old }
@@ -254,7 +254,7 @@ impl<A: Allocator + Copy> Trace<A> {
         links: &mut [Link<A>],
         link: usize,
         which: usize,
-        put: &Put<A>,
+        put: &SentPrepare<A>,
         now: Moment,
     ) -> Result<Told<A>, AllocError>
         requires { link < length links.old }
@@ -274,7 +274,7 @@ impl<A: Allocator + Copy> Trace<A> {
         links: &mut [Link<A>],
         link: usize,
         which: usize,
-        put: &Put<A>,
+        put: &SentPrepare<A>,
         now: Moment,
     ) -> Result<Told<A>, AllocError>
         requires hop { link < length self.old.nodes }
@@ -295,7 +295,7 @@ impl<A: Allocator + Copy> Trace<A> {
         links: &mut [Link<A>],
         hop: usize,
         which: usize,
-        put: &Put<A>,
+        put: &SentPrepare<A>,
         now: Moment,
     ) -> Result<Told<A>, AllocError>
         requires hop { hop < length self.old.nodes }
@@ -318,7 +318,7 @@ impl<A: Allocator + Copy> Trace<A> {
         way: Way,
         side: Side,
         which: usize,
-        put: &Put<A>,
+        put: &SentPrepare<A>,
         outcome: Outcome<A>,
         now: Moment,
     ) -> Told<A>
@@ -339,7 +339,7 @@ impl<A: Allocator + Copy> Trace<A> {
         links: &mut [Link<A>],
         hop: usize,
         which: usize,
-        put: &Put<A>,
+        put: &SentPrepare<A>,
         outcome: Outcome<A>,
         now: Moment,
     ) -> Result<Told<A>, AllocError>
@@ -361,7 +361,7 @@ impl<A: Allocator + Copy> Trace<A> {
         links: &mut [Link<A>],
         link: usize,
         which: usize,
-        put: &Put<A>,
+        put: &SentPrepare<A>,
         outcome: Outcome<A>,
         now: Moment,
     ) -> Result<Told<A>, AllocError>

@@ -15,9 +15,9 @@ use Rattle.st_end.specs.declared.role.Role.{Role}
 use Rattle.st_end.specs.State.{EndState, new_end}
 use Rattle.st_end.specs.Sending.{Goes, open_flight, is_open}
 use Rattle.st_end.specs.Answers.{ended, ended_with}
-use Rattle.st_world_parts.specs.State.{Party, EndEntry, Put, Given, Lane}
+use Rattle.st_world_parts.specs.State.{Party, AnsweredAtEnd, SentPrepare, SentAnswer, Direction}
 use Rattle.st_world_parts.specs.Events.{Sent}
-use Rattle.st_world_parts.specs.Ends.{put_by}
+use Rattle.st_world_parts.specs.Ends.{prepare_of_flight}
 use Rattle.st_world_parts.specs.Kept.{AreKept, Stands}
 use Rattle.st_world_parts.specs.Parts.{EndSends}
 
@@ -129,15 +129,15 @@ ended_kept e f x outcome kept i is live here h =
 
 -- ---- what a call leaves
 
-pub sent : (e f : EndState) (bag : List EndEntry) (puts more : List Put) (given : List Given) (p : Party) (x : Lane) (iv : List ℕ) (now : ℤ) (flight : Open) (bytes : List ℕ)
-    → record { state = e; bag = bag } ≡ p → record { puts = puts; given = given } ≡ x → Goes e iv now flight bytes f → more ≡ puts ++ put_by flight bytes ∷ []
-    → EndSends iv now Sent p (record { state = f; bag = bag }) x (record { puts = more; given = given })
-sent e f bag puts more given p x iv now flight bytes pe xe goes is =
-    let y : Lane = record { puts = more; given = given } in
-    let q : Party = record { state = f; bag = bag } in
+pub sent : (e f : EndState) (answered : List AnsweredAtEnd) (prepares more : List SentPrepare) (given : List SentAnswer) (p : Party) (x : Direction) (iv : List ℕ) (now : ℤ) (flight : Open) (bytes : List ℕ)
+    → record { state = e; answered = answered } ≡ p → record { prepares = prepares; given = given } ≡ x → Goes e iv now flight bytes f → more ≡ prepares ++ prepare_of_flight flight bytes ∷ []
+    → EndSends iv now Sent p (record { state = f; answered = answered }) x (record { prepares = more; given = given })
+sent e f answered prepares more given p x iv now flight bytes pe xe goes is =
+    let y : Direction = record { prepares = more; given = given } in
+    let q : Party = record { state = f; answered = answered } in
     let P : Party → Type 0 = λ p. EndSends iv now Sent p q x y in
-    let Q : Lane → Type 0 = λ x. EndSends iv now Sent (record { state = e; bag = bag }) q x y in
-    subst P pe (subst Q xe (inr (inl (flight, bytes, f, goes, refl, refl, ap (λ (ps : List Put). record { puts = ps; given = given }) is))))
+    let Q : Direction → Type 0 = λ x. EndSends iv now Sent (record { state = e; answered = answered }) q x y in
+    subst P pe (subst Q xe (inr (inl (flight, bytes, f, goes, refl, refl, ap (λ (ps : List SentPrepare). record { prepares = ps; given = given }) is))))
 
 -- the same for a flight that was found and taken out
 pub spent_kept : (e f : EndState) (x w : Open) (outcome : Option (List ℕ)) (kept ks rest : List Open) (i : ℕ) → f ≡ ended e x outcome → x ≡ w → is_open e w ≡ true → ks ≡ kept → slice_get ks i ≡ Some w → rest ≡ remove kept i → AreKept e.conditions kept

@@ -16,76 +16,76 @@ use Rattle.st_sender.specs.Accepting.{after_write, after_clean, after_stream_abo
 use Rattle.st_sender.specs.Refusals.{write_refusal, close_refusal, abort_refusal, offer_refusal}
 use Rattle.st_end.specs.Calls.{Answer, OrWants, done, refusal, write, close, abort, offer}
 use Rattle.st_end.specs.Reading.{read}
-use Rattle.st_world_parts.specs.Ledgers.{Ledger, ledger_or, got}
-use Rattle.st_world_parts.specs.State.{Party, EndEntry}
+use Rattle.st_world_parts.specs.StreamLogs.{StreamLog, ledger_or, got}
+use Rattle.st_world_parts.specs.State.{Party, AnsweredAtEnd}
 use Rattle.st_world_parts.specs.Events.{Told}
 use Rattle.st_world_parts.specs.Kept.{all_from}
 use Rattle.st_world_parts.specs.Parts.{CallMet, SlotMet, slot_if, kept_if, ReadMet, SlotRead, slot_read, read_if}
-use Rattle.st_world_parts.proofs.AllFrom.{ledger_at, with_ledger, set_same}
+use Rattle.st_world_parts.proofs.AllFrom.{log_at, with_ledger, set_same}
 
-any_or : (xs : List (Option Ledger)) (k : ℕ) (d x : Option Ledger) → k < length xs → get_or xs k d ≡ get_or xs k x
+any_or : (xs : List (Option StreamLog)) (k : ℕ) (d x : Option StreamLog) → k < length xs → get_or xs k d ≡ get_or xs k x
 any_or [] k d x l = absurd (omega (arith, l))
 any_or (y ∷ ys) zero d x l = refl
 any_or (y ∷ ys) (suc k) d x l = any_or ys k d x (omega (arith, l))
 
-found : (os : List (Option Ledger)) (k : ℕ) (o : Option Ledger) → k < length os → o ≡ get_or os k o → fmap.get (all_from 0 os) k ≡ o
-found os k o l is = ledger_at os k ∙ any_or os k None o l ∙ sym is
+found : (os : List (Option StreamLog)) (k : ℕ) (o : Option StreamLog) → k < length os → o ≡ get_or os k o → fmap.get (all_from 0 os) k ≡ o
+found os k o l is = log_at os k ∙ any_or os k None o l ∙ sym is
 
-kept : (a : Answer) (os : List (Option Ledger)) (k : ℕ) (o u : Option Ledger) (x : Ledger) → k < length os → o ≡ get_or os k o → u ≡ slot_if a o x → all_from 0 (set os k u) ≡ kept_if a (all_from 0 os) k x
-kept (Ok done) os k o u x l is e = ap (λ (v : Option Ledger). all_from 0 (set os k v)) e ∙ with_ledger os k x l
-kept (Err why) os k o u x l is e = ap (λ (v : Option Ledger). all_from 0 (set os k v)) e ∙ ap (all_from 0) (set_same os k o o is)
+kept : (a : Answer) (os : List (Option StreamLog)) (k : ℕ) (o u : Option StreamLog) (x : StreamLog) → k < length os → o ≡ get_or os k o → u ≡ slot_if a o x → all_from 0 (set os k u) ≡ kept_if a (all_from 0 os) k x
+kept (Ok done) os k o u x l is e = ap (λ (v : Option StreamLog). all_from 0 (set os k v)) e ∙ with_ledger os k x l
+kept (Err why) os k o u x l is e = ap (λ (v : Option StreamLog). all_from 0 (set os k v)) e ∙ ap (all_from 0) (set_same os k o o is)
 
-at_list : (call : EndState → Answer × EndState) (g : Ledger → Ledger) (e f : EndState) (bag : List EndEntry) (os : List (Option Ledger)) (k : ℕ) (o u : Option Ledger) (told : Told)
+at_list : (call : EndState → Answer × EndState) (g : StreamLog → StreamLog) (e f : EndState) (answered : List AnsweredAtEnd) (os : List (Option StreamLog)) (k : ℕ) (o u : Option StreamLog) (told : Told)
     → k < length os → o ≡ get_or os k o → SlotMet (call e) (g (ledger_or o)) told e f o u
-    → CallMet (call e) k (g (ledger_or (fmap.get (all_from 0 os) k))) told (record { state = e; bag = bag }) (record { state = f; bag = bag }) (all_from 0 os) (all_from 0 (set os k u))
-at_list call g e f bag os k o u told l is met = elim met [
+    → CallMet (call e) k (g (ledger_or (fmap.get (all_from 0 os) k))) told (record { state = e; answered = answered }) (record { state = f; answered = answered }) (all_from 0 os) (all_from 0 (set os k u))
+at_list call g e f answered os k o u told l is met = elim met [
   | inl h ↦ inl (
     h.0,
-    ap (λ (s : EndState). record { state = s; bag = bag }) h.1,
-    kept (call e).0 os k o u (g (ledger_or o)) l is h.2 ∙ ap (λ (z : Option Ledger). kept_if (call e).0 (all_from 0 os) k (g (ledger_or z))) (sym (found os k o l is)),
+    ap (λ (s : EndState). record { state = s; answered = answered }) h.1,
+    kept (call e).0 os k o u (g (ledger_or o)) l is h.2 ∙ ap (λ (z : Option StreamLog). kept_if (call e).0 (all_from 0 os) k (g (ledger_or z))) (sym (found os k o l is)),
   )
   | inr h ↦ inr (
     h.0,
     h.1,
-    ap (λ (s : EndState). record { state = s; bag = bag }) h.2,
-    ap (λ (v : Option Ledger). all_from 0 (set os k v)) h.3 ∙ ap (all_from 0) (set_same os k o o is),
+    ap (λ (s : EndState). record { state = s; answered = answered }) h.2,
+    ap (λ (v : Option StreamLog). all_from 0 (set os k v)) h.3 ∙ ap (all_from 0) (set_same os k o o is),
   )
 ]
 
-pub at_slot : (call : EndState → Answer × EndState) (g : Ledger → Ledger) (e f : EndState) (bag : List EndEntry) (os : List (Option Ledger)) (i k : ℕ) (o u : Option Ledger) (told : Told) (p : Party) (m : fmap.FinMap nat_cmp Ledger)
-    → record { state = e; bag = bag } ≡ p → all_from 0 os ≡ m → i ≡ k → i < length os → o ≡ get_or os i o → SlotMet (call e) (g (ledger_or o)) told e f o u
-    → CallMet (call p.state) k (g (ledger_or (fmap.get m k))) told p (record { state = f; bag = bag }) m (all_from 0 (set os i u))
-at_slot call g e f bag os i k o u told p m pe me ik l is met =
-    let q : Party = record { state = f; bag = bag } in
+pub at_slot : (call : EndState → Answer × EndState) (g : StreamLog → StreamLog) (e f : EndState) (answered : List AnsweredAtEnd) (os : List (Option StreamLog)) (i k : ℕ) (o u : Option StreamLog) (told : Told) (p : Party) (m : fmap.FinMap nat_cmp StreamLog)
+    → record { state = e; answered = answered } ≡ p → all_from 0 os ≡ m → i ≡ k → i < length os → o ≡ get_or os i o → SlotMet (call e) (g (ledger_or o)) told e f o u
+    → CallMet (call p.state) k (g (ledger_or (fmap.get m k))) told p (record { state = f; answered = answered }) m (all_from 0 (set os i u))
+at_slot call g e f answered os i k o u told p m pe me ik l is met =
+    let q : Party = record { state = f; answered = answered } in
     let P : Party → Type 0 = λ p. CallMet (call p.state) k (g (ledger_or (fmap.get m k))) told p q m (all_from 0 (set os i u)) in
-    let p0 : Party = record { state = e; bag = bag } in
-    let M : fmap.FinMap nat_cmp Ledger → Type 0 = λ m. CallMet (call e) k (g (ledger_or (fmap.get m k))) told p0 q m (all_from 0 (set os i u)) in
+    let p0 : Party = record { state = e; answered = answered } in
+    let M : fmap.FinMap nat_cmp StreamLog → Type 0 = λ m. CallMet (call e) k (g (ledger_or (fmap.get m k))) told p0 q m (all_from 0 (set os i u)) in
     let K : ℕ → Type 0 = λ k. CallMet (call e) k (g (ledger_or (fmap.get (all_from 0 os) k))) told p0 q (all_from 0 os) (all_from 0 (set os i u)) in
-    subst P pe (subst M me (subst K ik (at_list call g e f bag os i o u told l is met)))
+    subst P pe (subst M me (subst K ik (at_list call g e f answered os i o u told l is met)))
 
-kept_read : (a : Result Got EndError) (os : List (Option Ledger)) (k : ℕ) (o u : Option Ledger) → k < length os → o ≡ get_or os k o → u ≡ slot_read a o → all_from 0 (set os k u) ≡ read_if a (all_from 0 os) k
-kept_read (Err why) os k o u l is e = ap (λ (v : Option Ledger). all_from 0 (set os k v)) e ∙ ap (all_from 0) (set_same os k o o is)
+kept_read : (a : Result Got EndError) (os : List (Option StreamLog)) (k : ℕ) (o u : Option StreamLog) → k < length os → o ≡ get_or os k o → u ≡ slot_read a o → all_from 0 (set os k u) ≡ read_if a (all_from 0 os) k
+kept_read (Err why) os k o u l is e = ap (λ (v : Option StreamLog). all_from 0 (set os k v)) e ∙ ap (all_from 0) (set_same os k o o is)
 kept_read (Ok g) os k o u l is e =
-    ap (λ (v : Option Ledger). all_from 0 (set os k v)) e ∙ with_ledger os k (got g (ledger_or o)) l
-    ∙ ap (λ (z : Option Ledger). fmap.insert (all_from 0 os) k (got g (ledger_or z))) (sym (found os k o l is))
+    ap (λ (v : Option StreamLog). all_from 0 (set os k v)) e ∙ with_ledger os k (got g (ledger_or o)) l
+    ∙ ap (λ (z : Option StreamLog). fmap.insert (all_from 0 os) k (got g (ledger_or z))) (sym (found os k o l is))
 
-read_list : (e f : EndState) (bag : List EndEntry) (os : List (Option Ledger)) (k n : ℕ) (o u : Option Ledger) (told : Told) → k < length os → o ≡ get_or os k o → SlotRead (read e k n) told e f o u
-    → ReadMet (read e k n) k told (record { state = e; bag = bag }) (record { state = f; bag = bag }) (all_from 0 os) (all_from 0 (set os k u))
-read_list e f bag os k n o u told l is met = elim met [
-  | inl h ↦ inl (h.0, ap (λ (s : EndState). record { state = s; bag = bag }) h.1, kept_read (read e k n).0 os k o u l is h.2)
-  | inr h ↦ inr (h.0, h.1, ap (λ (s : EndState). record { state = s; bag = bag }) h.2, ap (λ (v : Option Ledger). all_from 0 (set os k v)) h.3 ∙ ap (all_from 0) (set_same os k o o is))
+read_list : (e f : EndState) (answered : List AnsweredAtEnd) (os : List (Option StreamLog)) (k n : ℕ) (o u : Option StreamLog) (told : Told) → k < length os → o ≡ get_or os k o → SlotRead (read e k n) told e f o u
+    → ReadMet (read e k n) k told (record { state = e; answered = answered }) (record { state = f; answered = answered }) (all_from 0 os) (all_from 0 (set os k u))
+read_list e f answered os k n o u told l is met = elim met [
+  | inl h ↦ inl (h.0, ap (λ (s : EndState). record { state = s; answered = answered }) h.1, kept_read (read e k n).0 os k o u l is h.2)
+  | inr h ↦ inr (h.0, h.1, ap (λ (s : EndState). record { state = s; answered = answered }) h.2, ap (λ (v : Option StreamLog). all_from 0 (set os k v)) h.3 ∙ ap (all_from 0) (set_same os k o o is))
 ]
 
-pub read_slot : (e f : EndState) (bag : List EndEntry) (os : List (Option Ledger)) (i k n : ℕ) (o u : Option Ledger) (told : Told) (p : Party) (m : fmap.FinMap nat_cmp Ledger)
-    → record { state = e; bag = bag } ≡ p → all_from 0 os ≡ m → i ≡ k → i < length os → o ≡ get_or os i o → SlotRead (read e k n) told e f o u
-    → ReadMet (read p.state k n) k told p (record { state = f; bag = bag }) m (all_from 0 (set os i u))
-read_slot e f bag os i k n o u told p m pe me ik l is met =
-    let q : Party = record { state = f; bag = bag } in
-    let p0 : Party = record { state = e; bag = bag } in
+pub read_slot : (e f : EndState) (answered : List AnsweredAtEnd) (os : List (Option StreamLog)) (i k n : ℕ) (o u : Option StreamLog) (told : Told) (p : Party) (m : fmap.FinMap nat_cmp StreamLog)
+    → record { state = e; answered = answered } ≡ p → all_from 0 os ≡ m → i ≡ k → i < length os → o ≡ get_or os i o → SlotRead (read e k n) told e f o u
+    → ReadMet (read p.state k n) k told p (record { state = f; answered = answered }) m (all_from 0 (set os i u))
+read_slot e f answered os i k n o u told p m pe me ik l is met =
+    let q : Party = record { state = f; answered = answered } in
+    let p0 : Party = record { state = e; answered = answered } in
     let P : Party → Type 0 = λ p. ReadMet (read p.state k n) k told p q m (all_from 0 (set os i u)) in
-    let M : fmap.FinMap nat_cmp Ledger → Type 0 = λ m. ReadMet (read e k n) k told p0 q m (all_from 0 (set os i u)) in
+    let M : fmap.FinMap nat_cmp StreamLog → Type 0 = λ m. ReadMet (read e k n) k told p0 q m (all_from 0 (set os i u)) in
     let K : ℕ → Type 0 = λ k. SlotRead (read e k n) told e f o u → ReadMet (read e k n) k told p0 q (all_from 0 os) (all_from 0 (set os i u)) in
-    subst P pe (subst M me (subst K ik (read_list e f bag os i n o u told l is) met))
+    subst P pe (subst M me (subst K ik (read_list e f answered os i n o u told l is) met))
 
 -- ---- what a call leaves of the conditions
 
@@ -105,7 +105,7 @@ abort_keeps e k code = done_keeps e (refusal e k (abort_refusal e.sending k)) (c
 pub offer_keeps : (e : EndState) (k amount : ℕ) → (offer e k amount).1.conditions ≡ e.conditions
 offer_keeps e k amount = done_keeps e (refusal e k (offer_refusal e.sending k amount)) (changed e.sending k (after_offer amount))
 
-pub slot_keeps : (r : Answer × EndState) (x : Ledger) (told : Told) (e f : EndState) (o u : Option Ledger) → r.1.conditions ≡ e.conditions → SlotMet r x told e f o u → f.conditions ≡ e.conditions
+pub slot_keeps : (r : Answer × EndState) (x : StreamLog) (told : Told) (e f : EndState) (o u : Option StreamLog) → r.1.conditions ≡ e.conditions → SlotMet r x told e f o u → f.conditions ≡ e.conditions
 slot_keeps r x told e f o u k met = elim met [ inl h ↦ ap (λ (s : EndState). s.conditions) h.1 ∙ k | inr h ↦ ap (λ (s : EndState). s.conditions) h.2 ]
 
 -- ---- a read gives no more than was asked for

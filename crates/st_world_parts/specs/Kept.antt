@@ -9,7 +9,7 @@ use Rattle.indexmap.specs.IndexMap.{IndexMap, get}
 use Rattle.st_hop.specs.declared.ticket.Open.{Open}
 use Rattle.st_hop.specs.Tickets.{ticket_at}
 use Rattle.st_end.specs.declared.flight.Open as flights
-use Rattle.st_world_parts.specs.Ledgers.{Ledger}
+use Rattle.st_world_parts.specs.StreamLogs.{StreamLog}
 
 -- x is in the list
 abbrev pub Stands : {A : Type 0} → List A → A → Type 0
@@ -28,10 +28,10 @@ abbrev pub AreByNumber : {S : Type 0} → IndexMap ℕ Open S → List Open → 
 AreByNumber kept tickets = (n : ℕ) → get nat_eq kept n ≡ ticket_at tickets n
 
 -- ledgers in a list by number, as a map of those that there are
-abbrev pub put_if : Option Ledger → ℕ → fmap.FinMap nat_cmp Ledger → fmap.FinMap nat_cmp Ledger
+abbrev pub put_if : Option StreamLog → ℕ → fmap.FinMap nat_cmp StreamLog → fmap.FinMap nat_cmp StreamLog
 put_if None k m = m
 put_if (Some x) k m = fmap.insert m k x
 
-unfoldable pub all_from : ℕ → List (Option Ledger) → fmap.FinMap nat_cmp Ledger
+unfoldable pub all_from : ℕ → List (Option StreamLog) → fmap.FinMap nat_cmp StreamLog
 all_from k [] = fmap.empty
 all_from k (o ∷ os) = put_if o k (all_from (k + 1) os)

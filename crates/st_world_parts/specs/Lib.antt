@@ -1,5 +1,5 @@
 pub mod Sides
-pub mod Ledgers
+pub mod StreamLogs
 pub mod State
 pub mod Events
 pub mod Ends

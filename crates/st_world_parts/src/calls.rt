@@ -4,12 +4,12 @@ ghost use Rattle.std.specs.Prelude.{◌≡◌, ◌≢◌, ◌≤◌, OnErr, IfOk
 ghost use Rattle.st_end.specs.Calls as calls;
 ghost use Rattle.st_end.specs.Reading as reading;
 ghost use Rattle.st_world_parts.specs.Events as events;
-ghost use Rattle.st_world_parts.specs.Ledgers.{ledger_or, written, cleanly_closed, given_up};
+ghost use Rattle.st_world_parts.specs.StreamLogs.{ledger_or, written, cleanly_closed, given_up};
 ghost use Rattle.std.specs.FinMap as fmap;
 ghost use Rattle.st_world_parts.specs.Seen.{told_seen};
 ghost use Rattle.st_world_parts.specs.Parts.{CallMet, OpenMet, RaiseMet, ReadMet, SlotMet, SlotRead};
 
-use crate::ledger::{Ledgers, Slot};
+use crate::ledger::{StreamLogs, Slot};
 use crate::party::Party;
 use crate::told::Told;
 use st_end::{EndError, EndState};
@@ -126,12 +126,12 @@ fn read_slot<A: Allocator + Copy>(
             Ok(Told::Gave(Ok(Got::Nothing)))
         }
         Ok(Got::End) => {
-            slot.ledger.told_end = true;
+            slot.ledger.saw_end = true;
             slot.is_there = true;
             Ok(Told::Gave(Ok(Got::End)))
         }
         Ok(Got::Aborted(code)) => {
-            slot.ledger.told_abort = true;
+            slot.ledger.saw_abort = true;
             slot.is_there = true;
             Ok(Told::Gave(Ok(Got::Aborted(code))))
         }
@@ -145,7 +145,7 @@ fn read_slot<A: Allocator + Copy>(
 /// nothing has changed.
 pub fn write_at<A: Allocator + Copy>(
     party: &mut Party<A>,
-    ledgers: &mut Ledgers<A>,
+    ledgers: &mut StreamLogs<A>,
     stream: u8,
     bytes: &[u8],
 ) -> Result<Told<A>, AllocError>
@@ -162,7 +162,7 @@ pub fn write_at<A: Allocator + Copy>(
 /// `Told::Call`. Does not allocate.
 pub fn close_at<A: Allocator + Copy>(
     party: &mut Party<A>,
-    ledgers: &mut Ledgers<A>,
+    ledgers: &mut StreamLogs<A>,
     stream: u8,
 ) -> Told<A>
     ensures met { CallMet (calls.close party.old.state stream) stream (cleanly_closed (ledger_or (fmap.get ledgers.old stream))) (told_seen result) party.old party.new ledgers.old ledgers.new }
@@ -176,7 +176,7 @@ pub fn close_at<A: Allocator + Copy>(
 /// writes. The answer is in `Told::Call`. Does not allocate.
 pub fn abort_at<A: Allocator + Copy>(
     party: &mut Party<A>,
-    ledgers: &mut Ledgers<A>,
+    ledgers: &mut StreamLogs<A>,
     stream: u8,
     code: u8,
 ) -> Told<A>
@@ -192,7 +192,7 @@ pub fn abort_at<A: Allocator + Copy>(
 /// `Told::Call`. Does not allocate.
 pub fn offer_at<A: Allocator + Copy>(
     party: &mut Party<A>,
-    ledgers: &mut Ledgers<A>,
+    ledgers: &mut StreamLogs<A>,
     stream: u8,
     amount: u64,
 ) -> Told<A>
@@ -208,7 +208,7 @@ pub fn offer_at<A: Allocator + Copy>(
 /// refused, and then nothing has changed. That is room for the lesser of `max` and 65,536 bytes: no read gives more.
 pub fn read_at<A: Allocator + Copy>(
     party: &mut Party<A>,
-    ledgers: &mut Ledgers<A>,
+    ledgers: &mut StreamLogs<A>,
     stream: u8,
     max: usize,
 ) -> Result<Told<A>, AllocError>

@@ -9,7 +9,7 @@ use std::marker::Model;
 
 /// A Prepare (RFC 0027) that a hop answered.
 #[derive(Clone, Copy, Debug, PartialEq, Eq)]
-pub struct HopEntry {
+pub struct AnsweredAtHop {
     /// The number of the account from which it arrived.
     pub incoming: usize,
     /// The number of the account to which it was forwarded, if it was.
@@ -22,10 +22,10 @@ pub struct HopEntry {
     pub fulfilled: bool,
 }
 
-impl Model for HopEntry {
+impl Model for AnsweredAtHop {
     ghost use Rattle.st_world_parts.specs.State as world;
 
-    ghost Value = { world.HopEntry };
+    ghost Value = { world.AnsweredAtHop };
 
     ghost view = { λ e. record { incoming = e.incoming; outgoing = e.outgoing; amount_in = e.amount_in; amount_out = e.amount_out; fulfilled = e.fulfilled } };
 
@@ -34,7 +34,7 @@ impl Model for HopEntry {
 
 /// A Prepare (RFC 0027) that an end answered.
 #[derive(Clone, Copy, Debug, PartialEq, Eq)]
-pub struct EndEntry {
+pub struct AnsweredAtEnd {
     /// Its amount in units of the end's asset.
     pub amount: u64,
     /// The sequence of its packet (RFC 0029, section 5.2), if its payload was decrypted.
@@ -43,10 +43,10 @@ pub struct EndEntry {
     pub fulfilled: bool,
 }
 
-impl Model for EndEntry {
+impl Model for AnsweredAtEnd {
     ghost use Rattle.st_world_parts.specs.State as world;
 
-    ghost Value = { world.EndEntry };
+    ghost Value = { world.AnsweredAtEnd };
 
     ghost view = { λ e. record { amount = e.amount; sequence = e.sequence; fulfilled = e.fulfilled } };
 

@@ -1,22 +1,22 @@
 //! The Prepares and answers that were sent over the links.
 
 ghost use Rattle.std.specs.Prelude.{◌≡◌, false, [], IfOk, MatchOption, Some, None};
-ghost use Rattle.st_world_parts.specs.State.{nth, no_lane, no_lanes};
+ghost use Rattle.st_world_parts.specs.State.{nth, empty_direction, empty_link};
 ghost use Rattle.st_world_parts.specs.Sides.{at};
-ghost use Rattle.st_world_parts.specs.Ends.{put_by, flight_of};
-ghost use Rattle.st_world_parts.specs.Hops.{put_on};
+ghost use Rattle.st_world_parts.specs.Ends.{prepare_of_flight, flight_of};
+ghost use Rattle.st_world_parts.specs.Hops.{prepare_of_ticket};
 ghost use Rattle.st_world_parts.specs.Seen.{way_seen};
 ghost use Rattle.st_world_parts.specs.Parts.{lane_in, taken_in};
 
 use crate::side::Way;
-use st_end::Open as Flown;
+use st_end::Open as SentFrame;
 use st_hop::Open;
 use std::alloc::{AllocError, Allocator};
 use std::marker::Model;
 
 /// A Prepare that was sent over a link, with what its sender needs for the answer.
 #[derive(Drop)]
-pub struct Put<A: Allocator + Copy> {
+pub struct SentPrepare<A: Allocator + Copy> {
     pub(crate) bytes: Vec<u8, A>,
     /// The sequence of its flight at the end that put it, or the number of its ticket at the hop.
     pub(crate) name: u64,
@@ -25,24 +25,24 @@ pub struct Put<A: Allocator + Copy> {
     pub(crate) cause: usize,
 }
 
-impl<A: Allocator + Copy> Model for Put<A> {
+impl<A: Allocator + Copy> Model for SentPrepare<A> {
     ghost use Rattle.st_world_parts.specs.State as world;
     ghost use Rattle.std.specs.Coded.{codes};
 
-    ghost Value = { world.Put };
+    ghost Value = { world.SentPrepare };
 
     ghost coded = { Prim.hlevel (codes) };
 
     ghost view = { λ a. record { bytes = a.bytes.items; name = a.name; condition = a.condition; cause = a.cause } };
 }
 
-impl<A: Allocator + Copy> Put<A> {
+impl<A: Allocator + Copy> SentPrepare<A> {
     /// The Prepare of a flight.
-    pub(crate) fn of_flight(flight: &Flown, bytes: Vec<u8, A>) -> Put<A>
-        ensures { result ≡ put_by flight.now bytes.items }
+    pub(crate) fn of_flight(flight: &SentFrame, bytes: Vec<u8, A>) -> SentPrepare<A>
+        ensures { result ≡ prepare_of_flight flight.now bytes.items }
     {
         let condition = flight.condition;
-        Put {
+        SentPrepare {
             bytes,
             name: flight.sequence,
             condition,
@@ -51,11 +51,11 @@ impl<A: Allocator + Copy> Put<A> {
     }
 
     /// The Prepare of a ticket, which a hop put for this one of the link before it.
-    pub(crate) fn of_ticket(ticket: &Open, bytes: Vec<u8, A>, cause: usize) -> Put<A>
-        ensures { result ≡ put_on ticket.now bytes.items cause }
+    pub(crate) fn of_ticket(ticket: &Open, bytes: Vec<u8, A>, cause: usize) -> SentPrepare<A>
+        ensures { result ≡ prepare_of_ticket ticket.now bytes.items cause }
     {
         let condition = ticket.condition;
-        Put {
+        SentPrepare {
             bytes,
             name: ticket.number,
             condition,
@@ -64,11 +64,11 @@ impl<A: Allocator + Copy> Put<A> {
     }
 
     /// Its flight at the end that put it.
-    pub(crate) fn flight(&self) -> Flown
+    pub(crate) fn flight(&self) -> SentFrame
         ensures { result ≡ flight_of self.now }
     {
         let condition = self.condition;
-        Flown {
+        SentFrame {
             sequence: self.name,
             condition,
         }
@@ -84,7 +84,7 @@ impl<A: Allocator + Copy> Put<A> {
 
 /// An answer, a Fulfill or a Reject, that was sent back over a link.
 #[derive(Drop)]
-pub struct Given<A: Allocator + Copy> {
+pub struct SentAnswer<A: Allocator + Copy> {
     /// The Prepare that it answers, from 1.
     pub(crate) which: usize,
     pub(crate) bytes: Vec<u8, A>,
@@ -92,22 +92,22 @@ pub struct Given<A: Allocator + Copy> {
     pub(crate) taken: bool,
 }
 
-impl<A: Allocator + Copy> Model for Given<A> {
+impl<A: Allocator + Copy> Model for SentAnswer<A> {
     ghost use Rattle.st_world_parts.specs.State as world;
     ghost use Rattle.std.specs.Coded.{codes};
 
-    ghost Value = { world.Given };
+    ghost Value = { world.SentAnswer };
 
     ghost coded = { Prim.hlevel (codes) };
 
     ghost view = { λ a. record { which = a.which; bytes = a.bytes.items; taken = a.taken } };
 }
 
-impl<A: Allocator + Copy> Given<A> {
-    pub(crate) fn new(which: usize, bytes: Vec<u8, A>) -> Given<A>
+impl<A: Allocator + Copy> SentAnswer<A> {
+    pub(crate) fn new(which: usize, bytes: Vec<u8, A>) -> SentAnswer<A>
         ensures { result ≡ record { which = which; bytes = bytes.items; taken = false } }
     {
-        Given {
+        SentAnswer {
             which,
             bytes,
             taken: false,
@@ -146,57 +146,57 @@ impl<A: Allocator + Copy> Given<A> {
 /// One direction of a link: the Prepares that were sent in it and the answers that were sent back to them, each in
 /// order.
 #[derive(Drop)]
-pub struct Lane<A: Allocator + Copy> {
-    pub(crate) puts: Vec<Put<A>, A>,
-    pub(crate) given: Vec<Given<A>, A>,
+pub struct Direction<A: Allocator + Copy> {
+    pub(crate) prepares: Vec<SentPrepare<A>, A>,
+    pub(crate) given: Vec<SentAnswer<A>, A>,
 }
 
-impl<A: Allocator + Copy> Model for Lane<A> {
+impl<A: Allocator + Copy> Model for Direction<A> {
     ghost use Rattle.st_world_parts.specs.State as world;
     ghost use Rattle.std.specs.Coded.{codes};
 
-    ghost Value = { world.Lane };
+    ghost Value = { world.Direction };
 
     ghost coded = { Prim.hlevel (codes) };
 
-    ghost view = { λ a. record { puts = a.puts.items; given = a.given.items } };
+    ghost view = { λ a. record { prepares = a.prepares.items; given = a.given.items } };
 }
 
-impl<A: Allocator + Copy> Lane<A> {
+impl<A: Allocator + Copy> Direction<A> {
     /// Nothing was put there.
-    pub(crate) fn new(alloc: A) -> Lane<A>
-        ensures { result ≡ no_lane }
+    pub(crate) fn new(alloc: A) -> Direction<A>
+        ensures { result ≡ empty_direction }
     {
-        Lane {
-            puts: Vec::new(alloc),
+        Direction {
+            prepares: Vec::new(alloc),
             given: Vec::new(alloc),
         }
     }
 
     /// The Prepares that were sent in it, in order.
-    pub fn prepares(&self) -> &[Put<A>]
-        ensures { result.now ≡ self.now.puts }
+    pub fn prepares(&self) -> &[SentPrepare<A>]
+        ensures { result.now ≡ self.now.prepares }
     {
-        self.puts.as_slice()
+        self.prepares.as_slice()
     }
 
     /// The answers that were sent back to them, in order.
-    pub fn answers(&self) -> &[Given<A>]
+    pub fn answers(&self) -> &[SentAnswer<A>]
         ensures { result.now ≡ self.now.given }
     {
         self.given.as_slice()
     }
 
     /// The Prepare of this number, from 1. `None` if there is none.
-    pub fn prepare(&self, which: usize) -> Option<&Put<A>>
-        ensures { MatchOption result (nth self.now.puts which ≡ None) (λ p. nth self.now.puts which ≡ Some p.now) }
+    pub fn prepare(&self, which: usize) -> Option<&SentPrepare<A>>
+        ensures { MatchOption result (nth self.now.prepares which ≡ None) (λ p. nth self.now.prepares which ≡ Some p.now) }
     {
         let place = which.checked_sub(1)?;
-        self.puts.get(place)
+        self.prepares.get(place)
     }
 
     /// The answer of this number, from 1. `None` if there is none.
-    pub fn answer(&self, which: usize) -> Option<&Given<A>>
+    pub fn answer(&self, which: usize) -> Option<&SentAnswer<A>>
         ensures { MatchOption result (nth self.now.given which ≡ None) (λ g. nth self.now.given which ≡ Some g.now) }
     {
         let place = which.checked_sub(1)?;
@@ -208,17 +208,17 @@ impl<A: Allocator + Copy> Lane<A> {
 #[derive(Drop)]
 pub struct Link<A: Allocator + Copy> {
     /// The Prepares towards the server, and their answers.
-    pub client: Lane<A>,
+    pub client: Direction<A>,
     /// The Prepares towards the client, and their answers.
-    pub server: Lane<A>,
+    pub server: Direction<A>,
 }
 
 impl<A: Allocator + Copy> Model for Link<A> {
-    ghost use Rattle.st_world_parts.specs.State.{Lane};
+    ghost use Rattle.st_world_parts.specs.State.{Direction};
     ghost use Rattle.st_world_parts.specs.Sides.{Both};
     ghost use Rattle.std.specs.Coded.{codes};
 
-    ghost Value = { Both Lane };
+    ghost Value = { Both Direction };
 
     ghost coded = { Prim.hlevel (codes) };
 
@@ -228,16 +228,16 @@ impl<A: Allocator + Copy> Model for Link<A> {
 impl<A: Allocator + Copy> Link<A> {
     /// A link over which nothing was sent.
     pub fn new(alloc: A) -> Link<A>
-        ensures { result ≡ no_lanes }
+        ensures { result ≡ empty_link }
     {
         Link {
-            client: Lane::new(alloc),
-            server: Lane::new(alloc),
+            client: Direction::new(alloc),
+            server: Direction::new(alloc),
         }
     }
 
     /// One direction of the link.
-    pub fn lane(&self, way: Way) -> &Lane<A>
+    pub fn lane(&self, way: Way) -> &Direction<A>
         ensures { result.now ≡ at self.now (way_seen way) }
     {
         match way {
@@ -255,8 +255,8 @@ pub fn copy_put<A: Allocator + Copy>(
     link: usize,
     way: Way,
     which: usize,
-) -> Result<Option<Put<A>>, AllocError>
-    ensures { IfOk result (λ o. o ≡ nth (lane_in links.now link (way_seen way)).puts which) }
+) -> Result<Option<SentPrepare<A>>, AllocError>
+    ensures { IfOk result (λ o. o ≡ nth (lane_in links.now link (way_seen way)).prepares which) }
 {
     let Some(link) = links.get(link) else {
         return Ok(None);
@@ -264,7 +264,7 @@ pub fn copy_put<A: Allocator + Copy>(
     let Some(put) = link.lane(way).prepare(which) else {
         return Ok(None);
     };
-    Ok(Some(Put {
+    Ok(Some(SentPrepare {
         bytes: Vec::from_slice(alloc, put.bytes.as_slice())?,
         name: put.name,
         condition: put.condition,
@@ -280,7 +280,7 @@ pub fn copy_given<A: Allocator + Copy>(
     link: usize,
     way: Way,
     which: usize,
-) -> Result<Option<Given<A>>, AllocError>
+) -> Result<Option<SentAnswer<A>>, AllocError>
     ensures { IfOk result (λ o. o ≡ nth (lane_in links.now link (way_seen way)).given which) }
 {
     let Some(link) = links.get(link) else {
@@ -289,7 +289,7 @@ pub fn copy_given<A: Allocator + Copy>(
     let Some(answer) = link.lane(way).answer(which) else {
         return Ok(None);
     };
-    Ok(Some(Given {
+    Ok(Some(SentAnswer {
         which: answer.which,
         bytes: Vec::from_slice(alloc, answer.bytes.as_slice())?,
         taken: answer.taken,
@@ -298,7 +298,7 @@ pub fn copy_given<A: Allocator + Copy>(
 
 /// Notes that the j-th answer, from 1, was booked as a Fulfill, if it was.
 pub(crate) fn mark_taken<A: Allocator + Copy>(
-    given: &mut Vec<Given<A>, A>,
+    given: &mut Vec<SentAnswer<A>, A>,
     which: usize,
     booked: bool,
 )

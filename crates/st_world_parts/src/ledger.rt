@@ -2,7 +2,7 @@
 
 ghost use Rattle.std.specs.Prelude.{◌≡◌, IfOk, MatchOption, Some, None, replicate};
 ghost use Rattle.std.specs.FinMap as fmap;
-ghost use Rattle.st_world_parts.specs.Ledgers.{ledger_or};
+ghost use Rattle.st_world_parts.specs.StreamLogs.{ledger_or};
 
 use std::alloc::{AllocError, Allocator};
 use std::marker::Model;
@@ -12,38 +12,38 @@ const NUMBERS: usize = 256;
 
 /// What was written and read of a stream in one direction, and how its reader learned of its end.
 #[derive(Drop)]
-pub struct Ledger<A: Allocator + Copy> {
+pub struct StreamLog<A: Allocator + Copy> {
     pub(crate) written: Vec<u8, A>,
     pub(crate) read: Vec<u8, A>,
     pub(crate) clean: bool,
     pub(crate) aborted: bool,
-    pub(crate) told_end: bool,
-    pub(crate) told_abort: bool,
+    pub(crate) saw_end: bool,
+    pub(crate) saw_abort: bool,
 }
 
-impl<A: Allocator + Copy> Model for Ledger<A> {
-    ghost use Rattle.st_world_parts.specs.Ledgers as ledgers;
+impl<A: Allocator + Copy> Model for StreamLog<A> {
+    ghost use Rattle.st_world_parts.specs.StreamLogs as ledgers;
     ghost use Rattle.std.specs.Coded.{codes};
 
-    ghost Value = { ledgers.Ledger };
+    ghost Value = { ledgers.StreamLog };
 
     ghost coded = { Prim.hlevel (codes) };
 
-    ghost view = { λ a. record { written = a.written.items; read = a.read.items; clean = a.clean; aborted = a.aborted; told_end = a.told_end; told_abort = a.told_abort } };
+    ghost view = { λ a. record { written = a.written.items; read = a.read.items; clean = a.clean; aborted = a.aborted; saw_end = a.saw_end; saw_abort = a.saw_abort } };
 }
 
-impl<A: Allocator + Copy> Ledger<A> {
+impl<A: Allocator + Copy> StreamLog<A> {
     /// Nothing happened.
-    fn new(alloc: A) -> Ledger<A>
+    fn new(alloc: A) -> StreamLog<A>
         ensures { result ≡ ledger_or None }
     {
-        Ledger {
+        StreamLog {
             written: Vec::new(alloc),
             read: Vec::new(alloc),
             clean: false,
             aborted: false,
-            told_end: false,
-            told_abort: false,
+            saw_end: false,
+            saw_abort: false,
         }
     }
 
@@ -76,33 +76,33 @@ impl<A: Allocator + Copy> Ledger<A> {
     }
 
     /// Whether a read gave the end of the stream.
-    pub fn told_end(&self) -> bool
-        ensures { result ≡ self.now.told_end }
+    pub fn saw_end(&self) -> bool
+        ensures { result ≡ self.now.saw_end }
     {
-        self.told_end
+        self.saw_end
     }
 
     /// Whether a read gave an abort of the stream.
-    pub fn told_abort(&self) -> bool
-        ensures { result ≡ self.now.told_abort }
+    pub fn saw_abort(&self) -> bool
+        ensures { result ≡ self.now.saw_abort }
     {
-        self.told_abort
+        self.saw_abort
     }
 }
 
 /// The place of one stream's ledger. A ledger that is not there yet can have room for what it is to take.
 #[derive(Drop)]
 pub(crate) struct Slot<A: Allocator + Copy> {
-    pub(crate) ledger: Ledger<A>,
+    pub(crate) ledger: StreamLog<A>,
     pub(crate) is_there: bool,
 }
 
 impl<A: Allocator + Copy> Model for Slot<A> {
     ghost use Rattle.std.specs.Prelude.{◌≡◌, false, cond, Some, None, Option};
-    ghost use Rattle.st_world_parts.specs.Ledgers as ledgers;
+    ghost use Rattle.st_world_parts.specs.StreamLogs as ledgers;
     ghost use Rattle.std.specs.Coded.{codes};
 
-    ghost Value = { Option ledgers.Ledger };
+    ghost Value = { Option ledgers.StreamLog };
 
     ghost coded = { Prim.hlevel (codes) };
 
@@ -113,19 +113,19 @@ impl<A: Allocator + Copy> Model for Slot<A> {
 
 /// The ledgers of all streams in one direction.
 #[derive(Drop)]
-pub struct Ledgers<A: Allocator + Copy> {
+pub struct StreamLogs<A: Allocator + Copy> {
     pub(crate) slots: Vec<Slot<A>, A>,
 }
 
-impl<A: Allocator + Copy> Model for Ledgers<A> {
+impl<A: Allocator + Copy> Model for StreamLogs<A> {
     ghost use Rattle.std.specs.Prelude.{◌≡◌, length};
     ghost use Rattle.std.specs.Ordering.{nat_cmp};
     ghost use Rattle.std.specs.FinMap as map;
     ghost use Rattle.std.specs.Coded.{codes};
-    ghost use Rattle.st_world_parts.specs.Ledgers as ledgers;
+    ghost use Rattle.st_world_parts.specs.StreamLogs as ledgers;
     ghost use Rattle.st_world_parts.specs.Kept.{all_from};
 
-    ghost Value = { map.FinMap nat_cmp ledgers.Ledger };
+    ghost Value = { map.FinMap nat_cmp ledgers.StreamLog };
 
     ghost coded = { Prim.hlevel (codes, map.code) };
 
@@ -141,25 +141,25 @@ fn no_ledgers<A: Allocator + Copy>(alloc: A, places: usize) -> Result<Vec<Slot<A
     let mut slots = Vec::with_capacity(alloc, places)?;
     for place in 0..places {
         slots.push(Slot {
-            ledger: Ledger::new(alloc),
+            ledger: StreamLog::new(alloc),
             is_there: false,
         })?;
     }
     Ok(slots)
 }
 
-impl<A: Allocator + Copy> Ledgers<A> {
+impl<A: Allocator + Copy> StreamLogs<A> {
     /// The ledgers of streams on which nothing was written or read. Fails if memory is refused.
-    pub fn new(alloc: A) -> Result<Ledgers<A>, AllocError>
+    pub fn new(alloc: A) -> Result<StreamLogs<A>, AllocError>
         ensures { IfOk result (λ l. l ≡ fmap.empty) }
     {
-        Ok(Ledgers {
+        Ok(StreamLogs {
             slots: no_ledgers(alloc, NUMBERS)?,
         })
     }
 
     /// The ledger of a stream. `None` if nothing was accepted or read of it.
-    pub fn get(&self, stream: u8) -> Option<&Ledger<A>>
+    pub fn get(&self, stream: u8) -> Option<&StreamLog<A>>
         ensures { MatchOption result (fmap.get self.now stream ≡ None) (λ x. fmap.get self.now stream ≡ Some x.now) }
     {
         let slot = &self.slots[usize::from(stream)];

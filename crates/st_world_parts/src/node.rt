@@ -8,8 +8,8 @@ ghost use Rattle.st_hop.specs.Table.{is_table, new_hop};
 ghost use Rattle.st_world_parts.specs.Seen.{way_seen, told_seen};
 ghost use Rattle.st_world_parts.specs.Parts.{HopMet, HopBack, HopCrashed};
 
-use crate::entry::{HopEntry, amount_in};
-use crate::lane::{Given, Lane, Put, mark_taken};
+use crate::entry::{AnsweredAtHop, amount_in};
+use crate::lane::{SentAnswer, Direction, SentPrepare, mark_taken};
 use crate::side::Way;
 use crate::told::Told;
 use indexmap::IndexMap;
@@ -81,7 +81,7 @@ fn take_ticket<A: Allocator + Copy>(kept: &mut Tickets<A>, number: u64) -> Optio
 pub struct Node<A: Allocator + Copy> {
     state: HopState<A>,
     kept: Tickets<A>,
-    bag: Vec<HopEntry, A>,
+    answered: Vec<AnsweredAtHop, A>,
     alloc: A,
 }
 
@@ -95,7 +95,7 @@ impl<A: Allocator + Copy> Model for Node<A> {
 
     ghost coded = { Prim.hlevel (codes) };
 
-    ghost view = { λ a. record { state = a.state; bag = a.bag.items } };
+    ghost view = { λ a. record { state = a.state; answered = a.answered.items } };
 
     ghost invariant = { λ a. AreByNumber a.kept a.state.tickets × (length a.state.accounts ≡ 2) };
 }
@@ -110,14 +110,14 @@ impl<A: Allocator + Copy> Node<A> {
         account: Account,
         routes: &[Route<'_>],
     ) -> Result<Node<A>, HopError>
-        ensures made { IfOk result (λ n. n ≡ record { state = new_hop own.now (account ∷ account ∷ []) (map hop_way_seen routes.now); bag = [] }) }
+        ensures made { IfOk result (λ n. n ≡ record { state = new_hop own.now (account ∷ account ∷ []) (map hop_way_seen routes.now); answered = [] }) }
         ensures refused { MatchBool (is_table own.now (account ∷ account ∷ []) (map hop_way_seen routes.now)) (IsOkUnless result HopError.NoMemory) (IsErrOf result HopError.BadTable) }
     {
         let state = HopState::new(alloc, own, &[account, account], routes)?;
         Ok(Node {
             state,
             kept: Tickets::with_hasher(alloc, BuildHasherDefault::<FoldHasher>::new()),
-            bag: Vec::new(alloc),
+            answered: Vec::new(alloc),
             alloc,
         })
     }
@@ -139,10 +139,10 @@ impl<A: Allocator + Copy> Node<A> {
     }
 
     /// The Prepares that it answered, in order. Does not allocate.
-    pub fn answered(&self) -> &[HopEntry]
-        ensures { result.now ≡ self.now.bag }
+    pub fn answered(&self) -> &[AnsweredAtHop]
+        ensures { result.now ≡ self.now.answered }
     {
-        self.bag.as_slice()
+        self.answered.as_slice()
     }
 
     /// The hop crashes, and is started again with its books: what is owed stays owed, and each ticket that it gave out and that
@@ -160,8 +160,8 @@ impl<A: Allocator + Copy> Node<A> {
 /// T00 and the result `Told::NoMemory`. Fails if memory for the record is refused, and then nothing has changed.
 pub fn arrive_at<A: Allocator + Copy>(
     node: &mut Node<A>,
-    next: &mut Lane<A>,
-    back: &mut Lane<A>,
+    next: &mut Direction<A>,
+    back: &mut Direction<A>,
     way: Way,
     which: usize,
     bytes: &[u8],
@@ -173,12 +173,12 @@ pub fn arrive_at<A: Allocator + Copy>(
     ensures same_back { OnErr result (back.new ≡ back.old) }
 {
     node.kept.reserve(1)?;
-    node.bag.reserve(1)?;
-    next.puts.reserve(1)?;
+    node.answered.reserve(1)?;
+    next.prepares.reserve(1)?;
     back.given.reserve(1)?;
     let t00 = Vec::from_slice(node.alloc, node.state.t00())?;
     let amount = amount_in(bytes);
-    let entry = HopEntry {
+    let entry = AnsweredAtHop {
         incoming: way.account(),
         outgoing: None,
         amount_in: amount,
@@ -194,19 +194,19 @@ pub fn arrive_at<A: Allocator + Copy>(
                 bytes,
             },
         ) => {
-            let put = Put::of_ticket(&ticket.read(), bytes, which);
+            let put = SentPrepare::of_ticket(&ticket.read(), bytes, which);
             keep_ticket(&mut node.kept, ticket);
-            next.puts.push(put).unwrap();
+            next.prepares.push(put).unwrap();
             Ok(Told::Went)
         }
         Ok(Verdict::Answer(bytes)) => {
-            node.bag.push(entry).unwrap();
-            back.given.push(Given::new(which, bytes)).unwrap();
+            node.answered.push(entry).unwrap();
+            back.given.push(SentAnswer::new(which, bytes)).unwrap();
             Ok(Told::Replied)
         }
         Err(HopError::NoMemory) => {
-            node.bag.push(entry).unwrap();
-            back.given.push(Given::new(which, t00)).unwrap();
+            node.answered.push(entry).unwrap();
+            back.given.push(SentAnswer::new(which, t00)).unwrap();
             Ok(Told::NoMemory)
         }
         Err(_) => unreachable!(),
@@ -218,9 +218,9 @@ pub fn arrive_at<A: Allocator + Copy>(
 /// Fails if memory for the record is refused, and then nothing has changed.
 pub fn settle_at<A: Allocator + Copy>(
     node: &mut Node<A>,
-    from: &mut Lane<A>,
-    back: &mut Lane<A>,
-    put: &Put<A>,
+    from: &mut Direction<A>,
+    back: &mut Direction<A>,
+    put: &SentPrepare<A>,
     which: usize,
     outcome: Outcome<A>,
     now: Moment,
@@ -230,7 +230,7 @@ pub fn settle_at<A: Allocator + Copy>(
     ensures same_from { OnErr result (from.new ≡ from.old) }
     ensures same_back { OnErr result (back.new ≡ back.old) }
 {
-    node.bag.reserve(1)?;
+    node.answered.reserve(1)?;
     back.given.reserve(1)?;
     let Some(ticket) = take_ticket(&mut node.kept, put.name) else {
         return Ok(Told::Nothing);
@@ -240,15 +240,15 @@ pub fn settle_at<A: Allocator + Copy>(
     let open = ticket.read();
     let booked = ticket.is_booked_by(&outcome, now);
     let bytes = node.state.settle(ticket, outcome, now);
-    let entry = HopEntry {
+    let entry = AnsweredAtHop {
         incoming: open.incoming,
         outgoing: Some(open.outgoing),
         amount_in: open.amount_in,
         amount_out: open.amount_out,
         fulfilled: booked,
     };
-    node.bag.push(entry).unwrap();
+    node.answered.push(entry).unwrap();
     mark_taken(&mut from.given, which, booked);
-    back.given.push(Given::new(put.cause, bytes)).unwrap();
+    back.given.push(SentAnswer::new(put.cause, bytes)).unwrap();
     Ok(Told::Replied)
 }

@@ -16,8 +16,8 @@ ghost use Rattle.st_world_parts.specs.Seen.{told_seen};
 ghost use Rattle.st_world_parts.specs.Kept.{AreKept};
 ghost use Rattle.st_world_parts.specs.Parts.{EndSends, EndMet, EndBack};
 
-use crate::entry::{EndEntry, amount_in, is_fulfill};
-use crate::lane::{Given, Lane, Put, mark_taken};
+use crate::entry::{AnsweredAtEnd, amount_in, is_fulfill};
+use crate::lane::{SentAnswer, Direction, SentPrepare, mark_taken};
 use crate::told::Told;
 use st_end::{EndError, EndState, Flight, Open, Role, Totals};
 use st_ilp::Moment;
@@ -134,7 +134,7 @@ fn take_flight<A: Allocator>(kept: &mut Vec<KeptFlight, A>, place: usize, wanted
 pub struct Party<A: Allocator + Copy> {
     pub(crate) state: EndState<A>,
     kept: Vec<KeptFlight, A>,
-    bag: Vec<EndEntry, A>,
+    answered: Vec<AnsweredAtEnd, A>,
     alloc: A,
 }
 
@@ -148,7 +148,7 @@ impl<A: Allocator + Copy> Model for Party<A> {
 
     ghost coded = { Prim.hlevel (codes, map.code) };
 
-    ghost view = { λ a. record { state = a.state; bag = a.bag.items } };
+    ghost view = { λ a. record { state = a.state; answered = a.answered.items } };
 
     ghost invariant = { λ a. AreKept a.state.conditions a.kept.items };
 }
@@ -173,7 +173,7 @@ impl<A: Allocator + Copy> Party<A> {
         Ok(Party {
             state,
             kept: Vec::new(alloc),
-            bag: Vec::new(alloc),
+            answered: Vec::new(alloc),
             alloc,
         })
     }
@@ -202,10 +202,10 @@ impl<A: Allocator + Copy> Party<A> {
     }
 
     /// The Prepares that it answered, in order. Does not allocate.
-    pub fn answered(&self) -> &[EndEntry]
-        ensures { result.now ≡ self.now.bag }
+    pub fn answered(&self) -> &[AnsweredAtEnd]
+        ensures { result.now ≡ self.now.answered }
     {
-        self.bag.as_slice()
+        self.answered.as_slice()
     }
 }
 
@@ -214,7 +214,7 @@ impl<A: Allocator + Copy> Party<A> {
 /// of memory. Fails if memory for the record is refused, and then nothing has changed.
 pub fn send_from<A: Allocator + Copy>(
     party: &mut Party<A>,
-    lane: &mut Lane<A>,
+    lane: &mut Direction<A>,
     iv: [u8; 12],
     now: Moment,
 ) -> Result<Told<A>, AllocError>
@@ -223,12 +223,12 @@ pub fn send_from<A: Allocator + Copy>(
     ensures same_lane { OnErr result (lane.new ≡ lane.old) }
 {
     party.kept.reserve(1)?;
-    lane.puts.reserve(1)?;
+    lane.prepares.reserve(1)?;
     match party.state.send(iv, now) {
         Ok(Some((flight, bytes))) => {
-            let put = Put::of_flight(&flight.read(), bytes);
+            let put = SentPrepare::of_flight(&flight.read(), bytes);
             party.kept.push(KeptFlight::new(flight)).unwrap();
-            lane.puts.push(put).unwrap();
+            lane.prepares.push(put).unwrap();
             Ok(Told::Sent)
         }
         Ok(None) => Ok(Told::Nothing),
@@ -241,7 +241,7 @@ pub fn send_from<A: Allocator + Copy>(
 /// `Told::NoMemory`. Fails if memory for the record is refused, and then nothing has changed.
 pub fn arrive_at_end<A: Allocator + Copy>(
     party: &mut Party<A>,
-    lane: &mut Lane<A>,
+    lane: &mut Direction<A>,
     which: usize,
     bytes: &[u8],
     now: Moment,
@@ -250,18 +250,18 @@ pub fn arrive_at_end<A: Allocator + Copy>(
     ensures same_party { OnErr result (party.new ≡ party.old) }
     ensures same_lane { OnErr result (lane.new ≡ lane.old) }
 {
-    party.bag.reserve(1)?;
+    party.answered.reserve(1)?;
     lane.given.reserve(1)?;
     let t00 = Vec::from_slice(party.alloc, party.state.t00())?;
     match party.state.receive(bytes, now) {
         Ok(received) => {
-            let entry = EndEntry {
+            let entry = AnsweredAtEnd {
                 amount: received.amount,
                 sequence: received.sequence,
                 fulfilled: is_fulfill(&received.bytes),
             };
-            party.bag.push(entry).unwrap();
-            lane.given.push(Given::new(which, received.bytes)).unwrap();
+            party.answered.push(entry).unwrap();
+            lane.given.push(SentAnswer::new(which, received.bytes)).unwrap();
             Ok(Told::Answered {
                 reason: received.reason,
                 amount: received.amount,
@@ -269,13 +269,13 @@ pub fn arrive_at_end<A: Allocator + Copy>(
             })
         }
         Err(_) => {
-            let entry = EndEntry {
+            let entry = AnsweredAtEnd {
                 amount: amount_in(bytes),
                 sequence: None,
                 fulfilled: false,
             };
-            party.bag.push(entry).unwrap();
-            lane.given.push(Given::new(which, t00)).unwrap();
+            party.answered.push(entry).unwrap();
+            lane.given.push(SentAnswer::new(which, t00)).unwrap();
             Ok(Told::NoMemory)
         }
     }
@@ -286,8 +286,8 @@ pub fn arrive_at_end<A: Allocator + Copy>(
 /// not allocate.
 pub fn settle_at_end<A: Allocator + Copy>(
     party: &mut Party<A>,
-    lane: &mut Lane<A>,
-    put: &Put<A>,
+    lane: &mut Direction<A>,
+    put: &SentPrepare<A>,
     which: usize,
     outcome: Outcome<A>,
 ) -> Told<A>

@@ -15,7 +15,7 @@ use Rattle.st_sender.specs.Flights.{flown, highest_end, sent_end}
 use Rattle.st_sender.specs.Due.{IsDue}
 use Rattle.st_sender.specs.Loads.{Sends, with_flight}
 use Rattle.st_sender.specs.Filling.{Fills}
-use Rattle.st_sender.specs.Answering.{after_all_told, landed, told_data, told_receive_max}
+use Rattle.st_sender.specs.Answering.{after_all_told, landed, told_data, advertised_receive_max}
 use Rattle.st_receiver.specs.Streams.{Incoming, Receiving, incoming_at, may_name, received_of}
 use Rattle.st_receiver.specs.Limits.{capped, named_limits, reply_frames, told_by}
 use Rattle.st_receiver.specs.Judged.{after_all, effect, with_sequence}
@@ -46,7 +46,7 @@ data_most : (b : Bool) (v : ℕ) (x : Outgoing) (m : ℕ) → x.told ≤ m → (
 data_most true v x m l h = let g = h refl in omega (arith, l, g)
 data_most false v x m l h = l
 
-money_most : (b : Bool) (a t : ℕ) (x : Outgoing) (m : ℕ) → x.told ≤ m → (cond b (told_receive_max a t x) x).told ≤ m
+money_most : (b : Bool) (a t : ℕ) (x : Outgoing) (m : ℕ) → x.told ≤ m → (cond b (advertised_receive_max a t x) x).told ≤ m
 money_most true a t x m l = l
 money_most false a t x m l = l
 

@@ -64,10 +64,10 @@ pub record IsKept (x y : Outgoing) : Type 0 where
   pub clean : y.clean ≡ x.clean
   pub abort : y.abort ≡ x.abort
   pub told : y.told ≡ x.told
-  pub told_money : y.told_money ≡ x.told_money
+  pub advertised_money : y.advertised_money ≡ x.advertised_money
 
 kept : (x : Outgoing) → IsKept x x
-kept x = record { accepted = refl; offered = refl; clean = refl; abort = refl; told = refl; told_money = refl }
+kept x = record { accepted = refl; offered = refl; clean = refl; abort = refl; told = refl; advertised_money = refl }
 
 kept_then : (x y z : Outgoing) → IsKept x y → IsKept y z → IsKept x z
 kept_then x y z a b = record {
@@ -76,7 +76,7 @@ kept_then x y z a b = record {
   clean = b.clean ∙ a.clean;
   abort = b.abort ∙ a.abort;
   told = b.told ∙ a.told;
-  told_money = b.told_money ∙ a.told_money;
+  advertised_money = b.advertised_money ∙ a.advertised_money;
 }
 
 kept_if : (b : Bool) (x y : Outgoing) → IsKept x y → IsKept x (cond b y x)
@@ -84,15 +84,15 @@ kept_if true x y h = h
 kept_if false x y h = kept x
 
 kept_close : (b : Bool) (x : Outgoing) → IsKept x (cond b (record x { clean_settled = true }) (record x { abort_settled = true }))
-kept_close true x = record { accepted = refl; offered = refl; clean = refl; abort = refl; told = refl; told_money = refl }
-kept_close false x = record { accepted = refl; offered = refl; clean = refl; abort = refl; told = refl; told_money = refl }
+kept_close true x = record { accepted = refl; offered = refl; clean = refl; abort = refl; told = refl; advertised_money = refl }
+kept_close false x = record { accepted = refl; offered = refl; clean = refl; abort = refl; told = refl; advertised_money = refl }
 
 acked_kept : (k : ℕ) (f : Known) (x : Outgoing) → IsKept x (own_acked k f x)
-acked_kept k (StreamData j o xs) x = kept_if (nat_eq j k) x (acked_data o (length xs) x) (record { accepted = refl; offered = refl; clean = refl; abort = refl; told = refl; told_money = refl })
-acked_kept k (StreamMoney j n) x = kept_if (nat_eq j k) x (acked_money n x) (record { accepted = refl; offered = refl; clean = refl; abort = refl; told = refl; told_money = refl })
+acked_kept k (StreamData j o xs) x = kept_if (nat_eq j k) x (acked_data o (length xs) x) (record { accepted = refl; offered = refl; clean = refl; abort = refl; told = refl; advertised_money = refl })
+acked_kept k (StreamMoney j n) x = kept_if (nat_eq j k) x (acked_money n x) (record { accepted = refl; offered = refl; clean = refl; abort = refl; told = refl; advertised_money = refl })
 acked_kept k (StreamClose j code message) x = kept_if (nat_eq j k) x (acked_close code x) (kept_close (nat_eq code 1) x)
-acked_kept k (StreamDataBlocked j n) x = kept_if (nat_eq j k) x (acked_blocked n x) (record { accepted = refl; offered = refl; clean = refl; abort = refl; told = refl; told_money = refl })
-acked_kept k (StreamMoneyBlocked j n t) x = kept_if (nat_eq j k) x (acked_money_blocked n x) (record { accepted = refl; offered = refl; clean = refl; abort = refl; told = refl; told_money = refl })
+acked_kept k (StreamDataBlocked j n) x = kept_if (nat_eq j k) x (acked_blocked n x) (record { accepted = refl; offered = refl; clean = refl; abort = refl; told = refl; advertised_money = refl })
+acked_kept k (StreamMoneyBlocked j n t) x = kept_if (nat_eq j k) x (acked_money_blocked n x) (record { accepted = refl; offered = refl; clean = refl; abort = refl; told = refl; advertised_money = refl })
 acked_kept k (ConnectionDataBlocked n) x = kept x
 acked_kept k (ConnectionMaxData n) x = kept x
 acked_kept k (StreamMaxData j n) x = kept x

@@ -21,7 +21,7 @@ use Rattle.st_world_quiet.proofs.Acknowledging.{all_acked_at, all_kept, all_own_
 use Rattle.st_world_quiet.proofs.Lowering.{work_lowers}
 use Rattle.st_world_quiet.proofs.Money.{money_after}
 use Rattle.st_world_quiet.proofs.Keeping.{IsLeft, left_kept}
-use Rattle.st_world_quiet.proofs.Telling.{all_own_told, all_room, all_told_at, all_told_only, connection_told, none_stays_told, rest_all_acked, rest_all_told, window_told}
+use Rattle.st_world_quiet.proofs.Telling.{all_own_told, all_room, all_told_at, all_told_only, connection_advertised, none_stays_told, rest_all_acked, rest_all_told, window_told}
 
 -- ---- bytes put into a map
 
@@ -232,7 +232,7 @@ round_keeps n s t quiet round =
       unmarked = ap (λ (z : Sending). z.marks) round.writes.rest ∙ heard.marks ∙ acked.marks ∙ quiet.unmarked;
       pays = (let h = quiet.pays in omega (arith, h, limit));
       slots = round.writes.slots ∙ heard.slots ∙ acked.slots ∙ quiet.slots;
-      connection = (let c = round.tells.connection in let a = connection_told c.0 round.told v c.1 in let b = c.2 in let ends = ends_same n v t round.told none none_after round.writes in
+      connection = (let c = round.tells.connection in let a = connection_advertised c.0 round.told v c.1 in let b = c.2 in let ends = ends_same n v t round.told none none_after round.writes in
           let told : t.told ≡ w.told = ap (λ (z : Sending). z.told) round.writes.rest in omega (arith, a, b, ends, told));
       streams = λ k y here. stream_waits n s t round.limits p round.told k y quiet round.sends round.fills round.tells round.writes (outgoing_at s k) refl here;
     }

@@ -69,7 +69,7 @@ to_its_end : {X : Type 0} (input : ℕ → List ℕ) (money most : ℕ → ℕ) 
     → EndsFated input money most course count nodes many sends told r w v → IsPlayedFated input money most course count nodes sends told w v
 to_its_end input money most course count nodes many sends told (Ok x) w v free short recorded calm e = e.played
 to_its_end input money most course count nodes many sends told (Err NoMemory) w v free short recorded calm e = absurd (let clash : ◌≡◌ {A = Bool} true false = recorded in cc)
-to_its_end input money most course count nodes many sends told (Err Refused) w v free short recorded calm e = absurd (let noted : v.refused ≡ true = e.stops.why in let clash : ◌≡◌ {A = Bool} true false = sym noted ∙ calm in cc)
+to_its_end input money most course count nodes many sends told (Err Refused) w v free short recorded calm e = absurd (let with_refusal : v.refused ≡ true = e.stops.why in let clash : ◌≡◌ {A = Bool} true false = sym with_refusal ∙ calm in cc)
 to_its_end input money most course count nodes many sends told (Err NoStream) w v free short recorded calm e = absurd (free e.stops.why)
 to_its_end input money most course count nodes many sends told (Err Endless) w v free short recorded calm e = absurd (short e.stops.why)
 

@@ -48,7 +48,7 @@ byte_fits n s k o b x quiet e from near =
         | inr apart ↦ (let a = end_apart j k o (b ∷ []) apart in omega (arith, a))
       ];
       connection = (let m = ends_more s k o (b ∷ []) x e in let c = quiet.connection in omega (arith, m, c));
-      money = λ j y open_at. none_fits n s j y.told_money quiet;
+      money = λ j y open_at. none_fits n s j y.advertised_money quiet;
       room_left = one_has_room (s.last + 1) (least_of s 0) f (byte_short k o b);
     }
 
@@ -77,7 +77,7 @@ no_ends_more s f none =
 
 -- an outgoing packet of one frame without data
 one_fits : (n : ℕ → ℕ) (s : Sending) (f : Known) → IsQuiet n s → ((j : ℕ) → end_of j (flown f) ≡ 0) → length (frame_text f) ≤ 40 → shares_of f ≤ s.packet_limit
-    → ((j : ℕ) (y : Outgoing) → outgoing_at s j ≡ Some y → MoneyFits y.told_money (flying_least s j) (room_for s.config.least (money_in j (f ∷ []))))
+    → ((j : ℕ) (y : Outgoing) → outgoing_at s j ≡ Some y → MoneyFits y.advertised_money (flying_least s j) (room_for s.config.least (money_in j (f ∷ []))))
     → Fits s max_packet (load_with s (f ∷ []))
 one_fits n s f quiet none short cheap money = record {
   alive = quiet.alive;
@@ -91,7 +91,7 @@ one_fits n s f quiet none short cheap money = record {
 }
 
 pub close_fits : (n : ℕ → ℕ) (s : Sending) (k : ℕ) → IsQuiet n s → Fits s max_packet (load_with s (StreamClose k 1 [] ∷ []))
-close_fits n s k quiet = one_fits n s (StreamClose k 1 []) quiet (λ j. refl) (close_short k 1) (omega arith) (λ j y open_at. none_fits n s j y.told_money quiet)
+close_fits n s k quiet = one_fits n s (StreamClose k 1 []) quiet (λ j. refl) (close_short k 1) (omega arith) (λ j y open_at. none_fits n s j y.advertised_money quiet)
 
 -- every look-up finds nothing
 pub all_gone : (m : fmap.FinMap nat_cmp ℕ) → ((q : ℕ) → fmap.get m q ≡ None) → m ≡ fmap.empty
@@ -132,7 +132,7 @@ money_goes n s limits k x quiet e left idle =
     idle (StreamMoney k 1) (record { stream = x; is_open = e; some = omega arith; due = omega (arith, due, left) })
     (one_fits n s (StreamMoney k 1) quiet (λ j. refl) (money_short k 1) (let p = quiet.pays in omega (arith, p)) fits)
   where
-    fits : (j : ℕ) (y : Outgoing) → outgoing_at s j ≡ Some y → MoneyFits y.told_money (flying_least s j) (room_for s.config.least (money_in j (StreamMoney k 1 ∷ [])))
+    fits : (j : ℕ) (y : Outgoing) → outgoing_at s j ≡ Some y → MoneyFits y.advertised_money (flying_least s j) (room_for s.config.least (money_in j (StreamMoney k 1 ∷ [])))
     fits j y open_at = elim (cases_eq j k) [
       | inl same ↦ (let here : outgoing_at s k ≡ Some y = rw same at open_at in
           let both : ◌≡◌ {A = Option Outgoing} (Some x) (Some y) = sym e ∙ here in
@@ -141,8 +141,8 @@ money_goes n s limits k x quiet e left idle =
           let c = sum_by-cons (money_of j) (StreamMoney k 1) [] in
           let one : money_of j (StreamMoney k 1) ≤ 1 = at_most (nat_eq k j) in
           let needs = whole_needs s.config.least (money_in j (StreamMoney k 1 ∷ [])) quiet.whole in
-          some_fits y.told_money (flying_least s j) (room_for s.config.least (money_in j (StreamMoney k 1 ∷ []))) (y.offered - y.fulfilled) (least_flies_none s j quiet.alone) (omega (arith, needs, c, one)) left_too (λ told e. let h = (quiet.streams j y open_at).may_pay told e in omega (arith, h)))
-      | inr apart ↦ (let b = is_other k j (λ z. apart (sym z)) in let zero_is : money_in j (StreamMoney k 1 ∷ []) ≡ 0 = rw b refl in subst (λ (m : ℕ). MoneyFits y.told_money (flying_least s j) (room_for s.config.least m)) (sym zero_is) (none_fits n s j y.told_money quiet))
+          some_fits y.advertised_money (flying_least s j) (room_for s.config.least (money_in j (StreamMoney k 1 ∷ []))) (y.offered - y.fulfilled) (least_flies_none s j quiet.alone) (omega (arith, needs, c, one)) left_too (λ told e. let h = (quiet.streams j y open_at).may_pay told e in omega (arith, h)))
+      | inr apart ↦ (let b = is_other k j (λ z. apart (sym z)) in let zero_is : money_in j (StreamMoney k 1 ∷ []) ≡ 0 = rw b refl in subst (λ (m : ℕ). MoneyFits y.advertised_money (flying_least s j) (room_for s.config.least m)) (sym zero_is) (none_fits n s j y.advertised_money quiet))
     ]
       where
         at_most : (b : Bool) → cond b 1 0 ≤ 1

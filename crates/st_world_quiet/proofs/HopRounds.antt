@@ -7,8 +7,8 @@ use Rattle.std.specs.Ordering.{nat_cmp}
 use Rattle.std.specs.FinMap as fmap
 use Rattle.st_receiver.specs.Reading.{Aborted, Bytes, End, Nothing, Got}
 use Rattle.st_world_parts.specs.Sides.{Both, IsPrefixOf, Client, Server, at}
-use Rattle.st_world_parts.specs.State.{with_ledger, ledger_at, Node, World, end_at, no_lanes, with_end}
-use Rattle.st_world_parts.specs.Ledgers.{got, ledger_or, Ledger}
+use Rattle.st_world_parts.specs.State.{with_ledger, log_at, Node, World, end_at, empty_link, with_end}
+use Rattle.st_world_parts.specs.StreamLogs.{got, ledger_or, StreamLog}
 use Rattle.st_world.proofs.Maps.{get_apart, get_here}
 use Rattle.st_sender.specs.declared.error.OutboxError.{OutboxError}
 use Rattle.st_sender.specs.Sending.{Sending, changed, changed_at, with_outgoing, Outgoing, outgoing_at}
@@ -108,13 +108,13 @@ settled_moved w v e f g h hops p q rest m = record {
   server = m.server_is;
   hops_are = ap (map state_of) m.nodes ∙ rest.hops_are;
   links = ap length m.links ∙ rest.links ∙ ap (λ ns. length ns + 1) (sym m.nodes);
-  lanes = λ j l. subst (λ ls. HasGone (p j) (q j) (at (get_or ls j no_lanes) Client)) (sym m.links) (rest.lanes j (let many : length v.nodes ≡ length w.nodes = ap length m.nodes in omega (arith, l, many)));
+  lanes = λ j l. subst (λ ls. HasGone (p j) (q j) (at (get_or ls j empty_link) Client)) (sym m.links) (rest.lanes j (let many : length v.nodes ≡ length w.nodes = ap length m.nodes in omega (arith, l, many)));
 }
 
 pub rest_moved : (w v : World) (e f g h : EndState) (hops : List Hop) (n : ℕ) → IsAtRest w e hops f n → Moves w v g h → IsAtRest v g hops h n
 rest_moved w v e f g h hops n rest m = settled_moved w v e f g h hops (λ l. n) (λ l. n) rest m
 
-accepted_moves : (a : Answer) (w v : World) (g f : EndState) (k : ℕ) (x : Ledger) → end_at w Server ≡ f → v ≡ accepted_at a (with_end w Client g) Client k x → Moves w v g f
+accepted_moves : (a : Answer) (w v : World) (g f : EndState) (k : ℕ) (x : StreamLog) → end_at w Server ≡ f → v ≡ accepted_at a (with_end w Client g) Client k x → Moves w v g f
 accepted_moves (Ok done) w v g f k x server is = record {
   client_is = ap (λ z. end_at z Client) is;
   server_is = ap (λ z. end_at z Server) is ∙ server;
@@ -143,7 +143,7 @@ read_moves (Err why) w v e h k client is = record {
 }
 
 -- a call of the client
-pub client_calls : (call : EndState → Answer × EndState) (w v : World) (e : EndState) (hops : List Hop) (f : EndState) (n k : ℕ) (x : Ledger) → IsAtRest w e hops f n → v ≡ accepted_at (call (end_at w Client)).0 (with_end w Client (call (end_at w Client)).1) Client k x → IsAtRest v (call e).1 hops f n
+pub client_calls : (call : EndState → Answer × EndState) (w v : World) (e : EndState) (hops : List Hop) (f : EndState) (n k : ℕ) (x : StreamLog) → IsAtRest w e hops f n → v ≡ accepted_at (call (end_at w Client)).0 (with_end w Client (call (end_at w Client)).1) Client k x → IsAtRest v (call e).1 hops f n
 client_calls call w v e hops f n k x rest is =
     subst (λ z. IsAtRest v (call z).1 hops f n) rest.client (rest_moved w v e f (call (end_at w Client)).1 f hops n rest (accepted_moves (call (end_at w Client)).0 w v (call (end_at w Client)).1 f k x rest.server is))
 
@@ -196,15 +196,15 @@ acked_of (Some x) = x.acked_end
 
 -- what its ledgers say of a stream
 pub record Ledgered (w : World) (e f : EndState) (k : ℕ) : Type 0 where
-  pub written : OutFine (ledger_at w Client k).written (outgoing_at e.sending k)
-  pub read : length (ledger_at w Client k).read ≡ (incoming_at f.receiving k).held.read
+  pub written : OutFine (log_at w Client k).written (outgoing_at e.sending k)
+  pub read : length (log_at w Client k).read ≡ (incoming_at f.receiving k).held.read
 
 pub ledgered_by : (c : Chain) (w : World) (e f : EndState) (k : ℕ) → IsReachedBy c w → end_at w Client ≡ e → end_at w Server ≡ f → Ledgered w e f k
 unfolding IsReachedBy
 ledgered_by c w e f k r client server =
     let ways = (reached c r.0 w r.1).in_order.ways Client in
     record {
-      written = subst (λ (z : EndState). OutFine (ledger_at w Client k).written (outgoing_at z.sending k)) client (ways.send k);
+      written = subst (λ (z : EndState). OutFine (log_at w Client k).written (outgoing_at z.sending k)) client (ways.send k);
       read = (ways.recv k).count ∙ ap (λ (z : EndState). (incoming_at z.receiving k).held.read) server;
     }
 
@@ -212,11 +212,11 @@ pub ledgered : (c : Chain) (w : World) (e : EndState) (hops : List Hop) (f : End
 ledgered c w e hops f n k r rest = ledgered_by c w e f k r rest.client rest.server
 
 -- an end that the server knows is the end of what the client wrote
-pub ledger_end : (c : Chain) (w : World) (k m : ℕ) → IsReachedBy c w → (incoming_at (end_at w Server).receiving k).held.end ≡ Some m → m ≡ length (ledger_at w Client k).written
+pub ledger_end : (c : Chain) (w : World) (k m : ℕ) → IsReachedBy c w → (incoming_at (end_at w Server).receiving k).held.end ≡ Some m → m ≡ length (log_at w Client k).written
 unfolding IsReachedBy
 ledger_end c w k m r e = let all = (((reached c r.0 w r.1).whole.states Client).recv k).ends m e in all.0
 
-pub ledger_prefix : (c : Chain) (w : World) (k : ℕ) → IsReachedBy c w → IsPrefixOf (ledger_at w Client k).read (ledger_at w Client k).written
+pub ledger_prefix : (c : Chain) (w : World) (k : ℕ) → IsReachedBy c w → IsPrefixOf (log_at w Client k).read (log_at w Client k).written
 unfolding IsReachedBy
 ledger_prefix c w k r = (((reached c r.0 w r.1).in_order.ways Client).recv k).is_prefix
 
@@ -227,10 +227,10 @@ none_closed : (b : Bool) (e : EndState) (k : ℕ) → outgoing_at e.sending k �
 none_closed true e k none = none_called e k _ _ none
 none_closed false e k none = refl
 
-fits_the_same : (xs : List ℕ) (l : Ledger) (x : Outgoing) → length l.written ≡ x.accepted → length l.read ≡ x.acked_end → fits xs l ≡ fitting xs x
+fits_the_same : (xs : List ℕ) (l : StreamLog) (x : Outgoing) → length l.written ≡ x.accepted → length l.read ≡ x.acked_end → fits xs l ≡ fitting xs x
 fits_the_same xs l x written read = rw (written, read) refl
 
-write_at : (xs : List ℕ) (k : ℕ) (o : Option Outgoing) (l : Ledger) (w v : World) (e : EndState) (hops : List Hop) (f : EndState) (n : ℕ) → outgoing_at e.sending k ≡ o → OutFine l.written o → length l.read ≡ acked_of o → IsAtRest w e hops f n → Met w (writes xs k l) v
+write_at : (xs : List ℕ) (k : ℕ) (o : Option Outgoing) (l : StreamLog) (w v : World) (e : EndState) (hops : List Hop) (f : EndState) (n : ℕ) → outgoing_at e.sending k ≡ o → OutFine l.written o → length l.read ≡ acked_of o → IsAtRest w e hops f n → Met w (writes xs k l) v
     → IsAtRest v (written_at xs e k o) hops f n
 write_at xs k None l w v e hops f n at written read rest run =
     let b = nat_eq (length l.written + length (fits xs l)) (length xs) in
@@ -246,40 +246,40 @@ write_at xs k (Some x) l w v e hops f n at written read rest run =
     subst (λ ys. P x.accepted ys) part (subst (λ m. P m (fits xs l)) (sym written.0) both)
 
 pub write_rest : (c : Chain) (xs : List ℕ) (k : ℕ) (w v : World) (e : EndState) (hops : List Hop) (f : EndState) (n : ℕ) → IsReachedBy c w → IsAtRest w e hops f n → acked_of (outgoing_at e.sending k) ≡ (incoming_at f.receiving k).held.read
-    → Met w (writes xs k (ledger_at w Client k)) v → IsAtRest v (written_on xs e k) hops f n
+    → Met w (writes xs k (log_at w Client k)) v → IsAtRest v (written_on xs e k) hops f n
 write_rest c xs k w v e hops f n r rest acked run =
     let told = ledgered c w e hops f n k r rest in
-    write_at xs k (outgoing_at e.sending k) (ledger_at w Client k) w v e hops f n refl told.written (told.read ∙ sym acked) rest run
+    write_at xs k (outgoing_at e.sending k) (log_at w Client k) w v e hops f n refl told.written (told.read ∙ sym acked) rest run
 
 -- ---- what was written is a front of the input
 
 abbrev pub Copies : (ℕ → List ℕ) → World → Type 0
-Copies input w = (k : ℕ) → IsPrefixOf (ledger_at w Client k).written (input k)
+Copies input w = (k : ℕ) → IsPrefixOf (log_at w Client k).written (input k)
 
 pub copies_same : (input : ℕ → List ℕ) (w v : World) → v.ledgers ≡ w.ledgers → Copies input w → Copies input v
-copies_same input w v same copies k = subst (λ (ls : Both (fmap.FinMap nat_cmp Ledger)). IsPrefixOf (ledger_or (fmap.get (at ls Client) k)).written (input k)) (sym same) (copies k)
+copies_same input w v same copies k = subst (λ (ls : Both (fmap.FinMap nat_cmp StreamLog)). IsPrefixOf (ledger_or (fmap.get (at ls Client) k)).written (input k)) (sym same) (copies k)
 
 -- one ledger of the client's is another
-copies_with : (input : ℕ → List ℕ) (w v : World) (k : ℕ) (x : Ledger) → v.ledgers ≡ (with_ledger w Client k x).ledgers → IsPrefixOf x.written (input k) → Copies input w → Copies input v
+copies_with : (input : ℕ → List ℕ) (w v : World) (k : ℕ) (x : StreamLog) → v.ledgers ≡ (with_ledger w Client k x).ledgers → IsPrefixOf x.written (input k) → Copies input w → Copies input v
 copies_with input w v k x is here copies =
     copies_same input (with_ledger w Client k x) v is (λ j. elim (cases_eq j k) [
-      | inl same ↦ subst (λ i. IsPrefixOf (ledger_at (with_ledger w Client k x) Client i).written (input i)) (sym same)
+      | inl same ↦ subst (λ i. IsPrefixOf (log_at (with_ledger w Client k x) Client i).written (input i)) (sym same)
           (subst (λ o. IsPrefixOf (ledger_or o).written (input k)) (sym (get_here (at w.ledgers Client) k x)) here)
       | inr apart ↦ subst (λ o. IsPrefixOf (ledger_or o).written (input j)) (sym (get_apart (at w.ledgers Client) k x j apart)) (copies j)
     ])
 
-pub copies_accepted : (input : ℕ → List ℕ) (a : Answer) (w v : World) (g : EndState) (k : ℕ) (x : Ledger) → v ≡ accepted_at a (with_end w Client g) Client k x → IsPrefixOf x.written (input k) → Copies input w → Copies input v
+pub copies_accepted : (input : ℕ → List ℕ) (a : Answer) (w v : World) (g : EndState) (k : ℕ) (x : StreamLog) → v ≡ accepted_at a (with_end w Client g) Client k x → IsPrefixOf x.written (input k) → Copies input w → Copies input v
 copies_accepted input (Ok done) w v g k x is here copies = copies_with input w v k x (ap (λ (z : World). z.ledgers) is) here copies
 copies_accepted input (Err why) w v g k x is here copies = copies_same input w v (ap (λ (z : World). z.ledgers) is) copies
 
-got_written : (g : Got) (x : Ledger) → (got g x).written ≡ x.written
+got_written : (g : Got) (x : StreamLog) → (got g x).written ≡ x.written
 got_written (Bytes xs) x = refl
 got_written Nothing x = refl
 got_written End x = refl
 got_written (Aborted code) x = refl
 
 copies_read : (input : ℕ → List ℕ) (r : Result Got EndError) (w v : World) (h : EndState) (k : ℕ) → v ≡ read_at r (with_end w Server h) Client k → Copies input w → Copies input v
-copies_read input (Ok g) w v h k is copies = copies_with input w v k (got g (ledger_at w Client k)) (ap (λ (z : World). z.ledgers) is) (subst (λ xs. IsPrefixOf xs (input k)) (sym (got_written g (ledger_at w Client k))) (copies k)) copies
+copies_read input (Ok g) w v h k is copies = copies_with input w v k (got g (log_at w Client k)) (ap (λ (z : World). z.ledgers) is) (subst (λ xs. IsPrefixOf xs (input k)) (sym (got_written g (log_at w Client k))) (copies k)) copies
 copies_read input (Err why) w v h k is copies = copies_same input w v (ap (λ (z : World). z.ledgers) is) copies
 
 pub copies_reads : (input : ℕ → List ℕ) (limit first count : ℕ) (w v : World) → 1 ≤ limit → Met w (reads limit first count) v → Copies input w → Copies input v
@@ -302,9 +302,9 @@ copies_close input true k w v run copies =
     let last = met_one (Close Client k) w v run in
     copies_accepted input (close (end_at w Client) k).0 w v (close (end_at w Client) k).1 k _ last.1.1 (copies k) copies
 
-pub copies_write : (input : ℕ → List ℕ) (k : ℕ) (w v : World) → Met w (writes (input k) k (ledger_at w Client k)) v → Copies input w → Copies input v
+pub copies_write : (input : ℕ → List ℕ) (k : ℕ) (w v : World) → Met w (writes (input k) k (log_at w Client k)) v → Copies input w → Copies input v
 copies_write input k w v run copies =
-    let l = ledger_at w Client k in
+    let l = log_at w Client k in
     let part = fits (input k) l in
     copies_close input (nat_eq (length l.written + length part) (length (input k))) k run.0 v run.4
     (copies_accepted input (write (end_at w Client) k part).0 w run.0 (write (end_at w Client) k part).1 k _ run.3.1 (copy_more (input k) l.written (length l.read + 262144 - length l.written) (copies k)) copies)
@@ -352,7 +352,7 @@ writes_rest : (c : Chain) (input : ℕ → List ℕ) (first count : ℕ) (w v : 
 unfolding write_each
 writes_rest c input first zero w v e hops f n r rest acked run = (subst (λ z. IsAtRest z e hops f n) (sym run) rest, subst (IsReachedBy c) (sym run) r)
 writes_rest c input first (suc m) w v e hops f n r rest acked run =
-    writes_rest c input (first + 1) m run.0 v (written_on (input first) e first) hops f n (reached_met c (writes (input first) first (ledger_at w Client first)) w run.0 r run.1)
+    writes_rest c input (first + 1) m run.0 v (written_on (input first) e first) hops f n (reached_met c (writes (input first) first (log_at w Client first)) w run.0 r run.1)
     (write_rest c (input first) first w run.0 e hops f n r rest (acked first) run.1)
     (λ k. acks_written_at (input first) e first (outgoing_at e.sending first) k ∙ acked k) run.2
 

@@ -11,8 +11,8 @@ use Rattle.st_end.specs.declared.error.EndError.TheVariants.{NoStream}
 use Rattle.st_end.specs.State.{EndState}
 use Rattle.st_end.specs.Reading.{read}
 use Rattle.st_world_parts.specs.Sides.{Client, Server}
-use Rattle.st_world_parts.specs.State.{World, end_at, ledger_at, with_end}
-use Rattle.st_world_parts.specs.Ledgers as ledgers
+use Rattle.st_world_parts.specs.State.{World, end_at, log_at, with_end}
+use Rattle.st_world_parts.specs.StreamLogs as ledgers
 use Rattle.st_world_parts.specs.Events.{Read, Told}
 use Rattle.st_world_parts.specs.Ends.{read_at}
 use Rattle.st_world.specs.Steps.{Step}
@@ -54,9 +54,9 @@ stream_stays r j limit k e = elim (replaced_here r j (after_get limit (incoming_
 pub record Leaves (k : ℕ) (w v : World) : Type 0 where
   pub incoming : incoming_at (end_at v Server).receiving k ≡ incoming_at (end_at w Server).receiving k
   pub credit : (end_at v Server).receiving.credit ≡ (end_at w Server).receiving.credit
-  pub written : (ledger_at v Client k).written ≡ (ledger_at w Client k).written
-  pub read : (ledger_at v Client k).read ≡ (ledger_at w Client k).read
-  pub told : (ledger_at w Client k).told_end ≡ true → (ledger_at v Client k).told_end ≡ true
+  pub written : (log_at v Client k).written ≡ (log_at w Client k).written
+  pub read : (log_at v Client k).read ≡ (log_at w Client k).read
+  pub told : (log_at w Client k).saw_end ≡ true → (log_at v Client k).saw_end ≡ true
 
 leaves_same : (k : ℕ) (w : World) → Leaves k w w
 leaves_same k w = record { incoming = refl; credit = refl; written = refl; read = refl; told = λ e. e }
@@ -73,7 +73,7 @@ leaves_then k w mid v a b = record {
 -- ---- one read
 
 abbrev Tells : (k j : ℕ) → World → Type 0
-Tells k j v = j ≡ k → (ledger_at v Client k).told_end ≡ true
+Tells k j v = j ≡ k → (log_at v Client k).saw_end ≡ true
 
 -- as a read goes by whether the stream is open
 abbrev read_if : Bool → EndState → (stream limit : ℕ) → Result Got EndError × EndState
@@ -87,38 +87,38 @@ none_read w v j limit k shut tells is = (
   record {
     incoming = ap (λ (z : World). incoming_at (end_at z Server).receiving k) is;
     credit = ap (λ (z : World). (end_at z Server).receiving.credit) is;
-    written = ap (λ (z : World). (ledger_at z Client k).written) is;
-    read = ap (λ (z : World). (ledger_at z Client k).read) is;
-    told = λ e. ap (λ (z : World). (ledger_at z Client k).told_end) is ∙ e;
+    written = ap (λ (z : World). (log_at z Client k).written) is;
+    read = ap (λ (z : World). (log_at z Client k).read) is;
+    told = λ e. ap (λ (z : World). (log_at z Client k).saw_end) is ∙ e;
   },
   λ same. absurd (let there : is_open (end_at w Server).receiving k ≡ true = is_there _ _ (tells 1) in
       let clash : ◌≡◌ {A = Bool} true false = sym there ∙ ap (is_open (end_at w Server).receiving) (sym same) ∙ shut in cc),
 )
 
-end_read : (w v : World) (limit k : ℕ) → TellsEnd k w → v ≡ once_read w k limit true → Leaves k w v × ((ledger_at v Client k).told_end ≡ true)
+end_read : (w v : World) (limit k : ℕ) → TellsEnd k w → v ≡ once_read w k limit true → Leaves k w v × ((log_at v Client k).saw_end ≡ true)
 end_read w v limit k tells is =
     let r = (end_at w Server).receiving in
-    let l = ledger_at w Client k in
-    let now : ledger_at v Client k ≡ ledgers.got End l = ap (λ (z : World). ledger_at z Client k) is ∙ ap ledgers.ledger_or (get_here _ k _) ∙ ap (λ g. ledgers.got g l) (tells limit) in (
+    let l = log_at w Client k in
+    let now : log_at v Client k ≡ ledgers.got End l = ap (λ (z : World). log_at z Client k) is ∙ ap ledgers.ledger_or (get_here _ k _) ∙ ap (λ g. ledgers.got g l) (tells limit) in (
       record {
         incoming = ap (λ (z : World). incoming_at (end_at z Server).receiving k) is ∙ stream_stays r k limit k (tells limit);
         credit = ap (λ (z : World). (end_at z Server).receiving.credit) is;
-        written = ap (λ (z : ledgers.Ledger). z.written) now;
-        read = ap (λ (z : ledgers.Ledger). z.read) now;
-        told = λ e. ap (λ (z : ledgers.Ledger). z.told_end) now;
+        written = ap (λ (z : ledgers.StreamLog). z.written) now;
+        read = ap (λ (z : ledgers.StreamLog). z.read) now;
+        told = λ e. ap (λ (z : ledgers.StreamLog). z.saw_end) now;
       },
-      ap (λ (z : ledgers.Ledger). z.told_end) now,
+      ap (λ (z : ledgers.StreamLog). z.saw_end) now,
     )
 
 other_read : (w v : World) (j limit k : ℕ) → k ≢ j → TellsEnd k w → v ≡ once_read w j limit true → Leaves k w v
 other_read w v j limit k apart tells is =
-    let now : ledger_at v Client k ≡ ledger_at w Client k = ap (λ (z : World). ledger_at z Client k) is ∙ ap ledgers.ledger_or (get_apart _ j _ k apart) in
+    let now : log_at v Client k ≡ log_at w Client k = ap (λ (z : World). log_at z Client k) is ∙ ap ledgers.ledger_or (get_apart _ j _ k apart) in
     record {
       incoming = ap (λ (z : World). incoming_at (end_at z Server).receiving k) is ∙ stream_stays (end_at w Server).receiving j limit k (tells limit);
       credit = ap (λ (z : World). (end_at z Server).receiving.credit) is;
-      written = ap (λ (z : ledgers.Ledger). z.written) now;
-      read = ap (λ (z : ledgers.Ledger). z.read) now;
-      told = λ e. ap (λ (z : ledgers.Ledger). z.told_end) now ∙ e;
+      written = ap (λ (z : ledgers.StreamLog). z.written) now;
+      read = ap (λ (z : ledgers.StreamLog). z.read) now;
+      told = λ e. ap (λ (z : ledgers.StreamLog). z.saw_end) now ∙ e;
     }
 
 one_read : (b : Bool) (w v : World) (j limit k : ℕ) → is_open (end_at w Server).receiving j ≡ b → TellsEnd k w → v ≡ once_read w j limit b → Leaves k w v × Tells k j v
@@ -130,7 +130,7 @@ one_read true w v j limit k opened tells is = elim (cases_eq k j) [
 
 -- ---- a read of each
 
-pub reads_leave : (limit first count : ℕ) (w v : World) (k : ℕ) → 1 ≤ limit → TellsEnd k w → Met w (reads limit first count) v → Leaves k w v × (first ≤ k → k < first + count → (ledger_at v Client k).told_end ≡ true)
+pub reads_leave : (limit first count : ℕ) (w v : World) (k : ℕ) → 1 ≤ limit → TellsEnd k w → Met w (reads limit first count) v → Leaves k w v × (first ≤ k → k < first + count → (log_at v Client k).saw_end ≡ true)
 unfolding reads
 reads_leave limit first zero w v k some tells run = (subst (Leaves k w) (sym run) (leaves_same k w), λ from till. absurd (omega (arith, from, till)))
 reads_leave zero first (suc m) w v k some tells run = absurd (omega (arith, some))

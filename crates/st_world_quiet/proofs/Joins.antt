@@ -1,7 +1,7 @@
 -- Lists of events one after the other, and the parts of a run by one more at their end.
 use Rattle.std.proofs.Common.{◌≡◌, ◌≢◌, ℕ, zero, suc, ◌+◌, ◌-◌, List, [], ◌∷◌, ◌++◌, refl, sym, subst, ◌≤◌, arith, ℤ}
 use Rattle.st_world_parts.specs.Sides.{Client, Server}
-use Rattle.st_world_parts.specs.State.{World, ledger_at}
+use Rattle.st_world_parts.specs.State.{World, log_at}
 use Rattle.st_world_parts.specs.Events.{AnswerArrives, Arrive, Event, Read, ReceiveMax}
 use Rattle.st_world_quiet.specs.Worlds.{Met, going_over}
 use Rattle.st_world_quiet.specs.HopRounds.{Begins, BeginsEach, Rounds, Writes, allows, reads, writes}
@@ -62,14 +62,14 @@ pub allows_none : (money : ℕ → ℕ) (w : World) → Met w (allows money 0 0)
 unfolding allows
 allows_none money w = refl
 
-writes_push : (input : ℕ → List ℕ) (first count k : ℕ) (w a v : World) → k ≡ first + count → Writes input first count w a → Met a (writes (input k) k (ledger_at a Client k)) v → Writes input first (suc count) w v
+writes_push : (input : ℕ → List ℕ) (first count k : ℕ) (w a v : World) → k ≡ first + count → Writes input first count w a → Met a (writes (input k) k (log_at a Client k)) v → Writes input first (suc count) w v
 writes_push input first zero k w a v at run one =
     let here : k ≡ first = omega (arith, at) in
-    let P : World → ℕ → Type 0 = λ z j. Met z (writes (input j) j (ledger_at z Client j)) v in
+    let P : World → ℕ → Type 0 = λ z j. Met z (writes (input j) j (log_at z Client j)) v in
     (v, subst (P w) here (subst (λ z. P z k) run one), refl)
 writes_push input first (suc m) k w a v at run one = (run.0, run.1, writes_push input (first + 1) m k run.0 a v (omega (arith, at)) run.2 one)
 
-pub writes_more : (input : ℕ → List ℕ) (k : ℕ) (w a v : World) → Writes input 0 k w a → Met a (writes (input k) k (ledger_at a Client k)) v → Writes input 0 (k + 1) w v
+pub writes_more : (input : ℕ → List ℕ) (k : ℕ) (w a v : World) → Writes input 0 k w a → Met a (writes (input k) k (log_at a Client k)) v → Writes input 0 (k + 1) w v
 writes_more input k w a v run one = subst (λ n. Writes input 0 n w v) (let next : suc k ≡ k + 1 = omega arith in next) (writes_push input 0 k k w a v (omega arith) run one)
 
 begins_push : (input : ℕ → List ℕ) (money : ℕ → ℕ) (count : ℕ) (w a v : World) → BeginsEach input money count w a → Begins input money a v → BeginsEach input money (suc count) w v

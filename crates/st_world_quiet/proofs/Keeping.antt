@@ -113,7 +113,7 @@ pub record IsLeft (n : ℕ) (x : Outgoing) : Type 0 where
   pub total : x.accepted ≤ n
   pub alive : x.abort ≡ None
   pub paid : x.fulfilled ≤ x.offered
-  pub may_pay : (told : ℕ × ℕ) → x.told_money ≡ Some told → told.1 + x.offered ≤ told.0 + x.fulfilled
+  pub may_pay : (told : ℕ × ℕ) → x.advertised_money ≡ Some told → told.1 + x.offered ≤ told.0 + x.fulfilled
 
 none_either : (b : Bool) (g : Option ℕ) → g ≡ None → cond b None g ≡ None
 none_either true g e = refl
@@ -141,7 +141,7 @@ left_kept n s limits p k x quiet sends fills e =
       total = (let t = w.total in omega (arith, t, accepted));
       alive = kept.abort ∙ w.alive;
       paid = (let m = sends.money k x e in let d = due_is_left s k x quiet.alone w.alive in let f = all_acked_paid k p.frames x in let o = kept.offered in let before = w.paid in omega (arith, m, d, f, o, before));
-      may_pay = λ told is. (let f = all_acked_paid k p.frames x in let o = kept.offered in let h = w.may_pay told (sym kept.told_money ∙ is) in omega (arith, o, f, h));
+      may_pay = λ told is. (let f = all_acked_paid k p.frames x in let o = kept.offered in let h = w.may_pay told (sym kept.advertised_money ∙ is) in omega (arith, o, f, h));
     }
   where
     front_at : IsWaiting (n k) x → (q : ℕ) → q < max x.acked_end (highest_end k (map flown p.frames)) → cond (list_any (carries k q) (map flown p.frames)) None (fmap.get x.unacked q) ≡ None

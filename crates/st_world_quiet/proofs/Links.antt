@@ -11,10 +11,10 @@ use Rattle.st_end.specs.declared.flight.Open as flights
 use Rattle.st_end.specs.Sending.{Goes, open_flight}
 use Rattle.st_end.specs.Answers.{ended}
 use Rattle.st_world_parts.specs.Sides.{Client, Server}
-use Rattle.st_world_parts.specs.State.{Lane, Node, World, end_at, lane_at, nth, with_end, with_given, with_hop_entry, with_lane, with_put}
+use Rattle.st_world_parts.specs.State.{Direction, Node, World, end_at, direction_at, nth, with_end, with_answer, with_hop_entry, with_lane, with_prepare}
 use Rattle.st_world_parts.specs.Events.{Arrive, Fault, Send, Sent, Silent, Told}
-use Rattle.st_world_parts.specs.Ends.{BackAtEnd, given_by, put_by}
-use Rattle.st_world_parts.specs.Hops.{BackAtHop, BackAtTicket, put_on, settled_entry}
+use Rattle.st_world_parts.specs.Ends.{BackAtEnd, answer_to, prepare_of_flight}
+use Rattle.st_world_parts.specs.Hops.{BackAtHop, BackAtTicket, prepare_of_ticket, settled_entry}
 use Rattle.st_world.specs.Steps.{Back, Step}
 use Rattle.st_world.proofs.Lanes.{lane_here, lane_there}
 use Rattle.st_world_quiet.specs.Crossing.{Crossed, crossed}
@@ -32,16 +32,16 @@ pub record IsGone (i : ℕ) (w v : World) (p g : ℕ → ℕ) (b : Beyond) : Typ
   pub count : length v.nodes ≡ length w.nodes
   pub links : length v.links ≡ length w.links
   pub before : (j : ℕ) → j < i → slice_get v.nodes j ≡ slice_get w.nodes j
-  pub earlier : (j : ℕ) → j < i → lane_at v j Client ≡ lane_at w j Client
-  pub puts : (lane_at v i Client).puts ≡ (lane_at w i Client).puts
-  pub given : length (lane_at v i Client).given ≡ g i
-  pub later : (j : ℕ) → i < j → j ≤ length w.nodes → HasGone (p j) (g j) (lane_at v j Client)
+  pub earlier : (j : ℕ) → j < i → direction_at v j Client ≡ direction_at w j Client
+  pub prepares : (direction_at v i Client).prepares ≡ (direction_at w i Client).prepares
+  pub given : length (direction_at v i Client).given ≡ g i
+  pub later : (j : ℕ) → i < j → j ≤ length w.nodes → HasGone (p j) (g j) (direction_at v j Client)
 
 -- ---- at a hop
 
-gone_after : (i : ℕ) (p g : ℕ → ℕ) (v u : World) (b : Beyond) → IsGone (suc i) v u p g b → length (lane_at v (suc i) Client).puts ≡ p (suc i) → (j : ℕ) → i < j → j ≤ length v.nodes → HasGone (p j) (g j) (lane_at u j Client)
+gone_after : (i : ℕ) (p g : ℕ → ℕ) (v u : World) (b : Beyond) → IsGone (suc i) v u p g b → length (direction_at v (suc i) Client).prepares ≡ p (suc i) → (j : ℕ) → i < j → j ≤ length v.nodes → HasGone (p j) (g j) (direction_at u j Client)
 gone_after i p g v u b back long j l k = elim (cases_eq j (suc i)) [
-  | inl e ↦ subst (λ z. HasGone (p z) (g z) (lane_at u z Client)) (sym e) (record { puts = ap length back.puts ∙ long; given = back.given })
+  | inl e ↦ subst (λ z. HasGone (p z) (g z) (direction_at u z Client)) (sym e) (record { prepares = ap length back.prepares ∙ long; given = back.given })
   | inr apart ↦ back.later j (omega (arith, l, apart)) k
 ]
 
@@ -49,26 +49,26 @@ gone_after i p g v u b back long j l k = elim (cases_eq j (suc i)) [
 fault_at_hop : (i : ℕ) (w v u x : World) (after : Hop) (others hops : List Hop) (f : EndState) (t : Open) (p g q h : ℕ → ℕ) (text onward : List ℕ) (b : Beyond) (now : ℤ) (told : Told) → IsOn i w hops f p g text → WentOn i w v after others f t p g onward → ticket_at after.tickets t.number ≡ Some t → IsGone (suc i) v u q h b
     → q (suc i) ≡ suc (p (suc i)) → h i ≡ suc (g i) → Step u (Fault (suc i) Client (suc (p (suc i))) now) told x → IsGone i w x q h (record { hops = faulted after t now ∷ b.hops; end = b.end })
 fault_at_hop i w v u x after others hops f t p g q h text onward b now told on went ticket back one_put one_given step =
-    let put_is : nth (lane_at u (suc i) Client).puts (suc (p (suc i))) ≡ Some (put_on t onward (suc (p i))) = ap (λ ps. slice_get ps (p (suc i))) back.puts ∙ went.put in
-    let at_put : Back u (suc i) Client 0 now None (Some (put_on t onward (suc (p i)))) told x = subst (λ o. Back u (suc i) Client 0 now None o told x) put_is step in
+    let put_is : nth (direction_at u (suc i) Client).prepares (suc (p (suc i))) ≡ Some (prepare_of_ticket t onward (suc (p i))) = ap (λ ps. slice_get ps (p (suc i))) back.prepares ∙ went.put in
+    let at_put : Back u (suc i) Client 0 now None (Some (prepare_of_ticket t onward (suc (p i)))) told x = subst (λ o. Back u (suc i) Client 0 now None o told x) put_is step in
     let node = went.node in
     let has_node : slice_get u.nodes i ≡ Some node = back.before i (omega arith) ∙ went.has_node in
-    let at_node : BackAtHop u (suc i) Client 0 (put_on t onward (suc (p i))) None now i (Some node) told x = subst (λ o. BackAtHop u (suc i) Client 0 (put_on t onward (suc (p i))) None now i o told x) has_node at_put in
+    let at_node : BackAtHop u (suc i) Client 0 (prepare_of_ticket t onward (suc (p i))) None now i (Some node) told x = subst (λ o. BackAtHop u (suc i) Client 0 (prepare_of_ticket t onward (suc (p i))) None now i o told x) has_node at_put in
     let ticket_is : ticket_at node.state.tickets t.number ≡ Some t = ap (λ (z : Hop). ticket_at z.tickets t.number) went.state_is ∙ ticket in
-    let settles : BackAtTicket u (suc i) Client 0 (put_on t onward (suc (p i))) None now i node (Some t) told x = subst (λ o. BackAtTicket u (suc i) Client 0 (put_on t onward (suc (p i))) None now i node o told x) ticket_is at_node in
+    let settles : BackAtTicket u (suc i) Client 0 (prepare_of_ticket t onward (suc (p i))) None now i node (Some t) told x = subst (λ o. BackAtTicket u (suc i) Client 0 (prepare_of_ticket t onward (suc (p i))) None now i node o told x) ticket_is at_node in
     let r = settled node.state t None now in
     let same : r ≡ settled after t None now = ap (λ z. settled z t None now) went.state_is in
     let entered = with_hop_entry u i node r.1 (settled_entry t false) in
     let prev : suc i - 1 ≡ i = omega arith in
-    let here_is : lane_at u i Client ≡ lane_at w i Client = back.earlier i (omega arith) ∙ went.earlier i (omega arith) in
-    let lane : Lane = record { puts = (lane_at u i Client).puts; given = (lane_at u i Client).given ++ given_by (suc (p i)) r.0 ∷ [] } in
-    let after_is : x ≡ with_lane entered i Client lane = subst (λ l. x ≡ with_given entered l Client (given_by (suc (p i)) r.0)) prev settles.1 in
+    let here_is : direction_at u i Client ≡ direction_at w i Client = back.earlier i (omega arith) ∙ went.earlier i (omega arith) in
+    let lane : Direction = record { prepares = (direction_at u i Client).prepares; given = (direction_at u i Client).given ++ answer_to (suc (p i)) r.0 ∷ [] } in
+    let after_is : x ≡ with_lane entered i Client lane = subst (λ l. x ≡ with_answer entered l Client (answer_to (suc (p i)) r.0)) prev settles.1 in
     let inside : i < length u.links = (let a = back.links in let c = went.on.links in let l = went.on.within in omega (arith, a, c, l)) in
-    let lane_is : lane_at x i Client ≡ lane = ap (λ z. lane_at z i Client) after_is ∙ lane_here entered i Client lane inside in
-    let lanes : (j : ℕ) → j ≢ i → lane_at x j Client ≡ lane_at u j Client = (λ j apart. ap (λ z. lane_at z j Client) after_is ∙ lane_there entered i Client lane j Client (λ e. apart e.0)) in
-    let new : Node = record { state = r.1; bag = node.bag ++ settled_entry t false ∷ [] } in
+    let lane_is : direction_at x i Client ≡ lane = ap (λ z. direction_at z i Client) after_is ∙ lane_here entered i Client lane inside in
+    let lanes : (j : ℕ) → j ≢ i → direction_at x j Client ≡ direction_at u j Client = (λ j apart. ap (λ z. direction_at z j Client) after_is ∙ lane_there entered i Client lane j Client (λ e. apart e.0)) in
+    let new : Node = record { state = r.1; answered = node.answered ++ settled_entry t false ∷ [] } in
     let nodes_are : x.nodes ≡ set u.nodes i new = ap (λ (z : World). z.nodes) after_is in
-    let given_long : length (lane_at u i Client).given ≡ g i = ap (λ (z : Lane). length z.given) here_is ∙ on.given in
+    let given_long : length (direction_at u i Client).given ≡ g i = ap (λ (z : Direction). length z.given) here_is ∙ on.given in
     let many = back.count in
     let many_more = went.count in
     record {
@@ -83,9 +83,9 @@ fault_at_hop i w v u x after others hops f t p g q h text onward b now told on w
       links = ap (λ (z : World). length z.links) after_is ∙ length-set entered.links i _ ∙ back.links ∙ went.links;
       before = λ j l. ap (λ ns. slice_get ns j) nodes_are ∙ get_set_apart u.nodes i new j (omega (arith, l)) ∙ back.before j (omega (arith, l)) ∙ went.before j l;
       earlier = λ j l. lanes j (omega (arith, l)) ∙ back.earlier j (omega (arith, l)) ∙ went.earlier j (omega (arith, l));
-      puts = ap (λ (z : Lane). z.puts) lane_is ∙ ap (λ (z : Lane). z.puts) here_is;
-      given = ap (λ (z : Lane). length z.given) lane_is ∙ length_push (lane_at u i Client).given (given_by (suc (p i)) r.0) ∙ ap suc given_long ∙ sym one_given;
-      later = λ j l m. subst (HasGone (q j) (h j)) (sym (lanes j (omega (arith, l)))) (gone_after i q h v u b back (went.on.puts ∙ sym one_put) j l (omega (arith, m, many_more)));
+      prepares = ap (λ (z : Direction). z.prepares) lane_is ∙ ap (λ (z : Direction). z.prepares) here_is;
+      given = ap (λ (z : Direction). length z.given) lane_is ∙ length_push (direction_at u i Client).given (answer_to (suc (p i)) r.0) ∙ ap suc given_long ∙ sym one_given;
+      later = λ j l m. subst (HasGone (q j) (h j)) (sym (lanes j (omega (arith, l)))) (gone_after i q h v u b back (went.on.prepares ∙ sym one_put) j l (omega (arith, m, many_more)));
     }
 
 -- ---- a Prepare that is lost
@@ -107,9 +107,9 @@ stays_lost i last w v hops f p g q h text on here lose run = subst (λ z. IsGone
   links = refl;
   before = λ j l. refl;
   earlier = λ j l. refl;
-  puts = refl;
+  prepares = refl;
   given = on.given ∙ sym (lose.ungiven i (omega (arith, here)));
-  later = λ j l m. (let old = on.later j l m in record { puts = old.puts ∙ sym (lose.unput j (omega (arith, here, l)) m); given = old.given ∙ sym (lose.ungiven j (omega (arith, here, l))) });
+  later = λ j l m. (let old = on.later j l m in record { prepares = old.prepares ∙ sym (lose.unput j (omega (arith, here, l)) m); given = old.given ∙ sym (lose.ungiven j (omega (arith, here, l))) });
 })
 
 losing_links : (hops : List Hop) (past i last : ℕ) (w v : World) (f : EndState) (p g q h : ℕ → ℕ) (text : List ℕ) (now : ℤ) → IsOn i w hops f p g text → AllForward hops text now → i + min past (length hops) ≡ last → Loses last (length w.nodes) p g q h → Met w (losing_by p i past (length hops) now) v
@@ -142,9 +142,9 @@ back_gone i w v p g q h c put gave back = record {
   links = back.links;
   before = back.before;
   earlier = back.earlier;
-  puts = back.puts;
+  prepares = back.prepares;
   given = back.given ∙ sym (gave i);
-  later = λ j l m. (let old = back.later j l m in record { puts = old.puts ∙ sym (put j); given = old.given ∙ sym (gave j) });
+  later = λ j l m. (let old = back.later j l m in record { prepares = old.prepares ∙ sym (put j); given = old.given ∙ sym (gave j) });
 }
 
 stranding_links : (hops : List Hop) (past i : ℕ) (w v : World) (f : EndState) (p g q h : ℕ → ℕ) (text : List ℕ) (now : ℤ) → ((j : ℕ) → q j ≡ suc (p j)) → ((j : ℕ) → h j ≡ suc (g j)) → IsOn i w hops f p g text → AllForward hops text now → Met w (stranding_by p g i past (length hops) now) v
@@ -168,19 +168,19 @@ stranding_links (one ∷ others) (suc m) i w v f p g q h text now put gave on fo
 
 -- ---- the client meets a fault
 
-all_gone : (w v : World) (b : Beyond) (q h : ℕ → ℕ) → IsGone 0 w v q h b → length (lane_at w 0 Client).puts ≡ q 0 → (j : ℕ) → j ≤ length w.nodes → HasGone (q j) (h j) (lane_at v j Client)
-all_gone w v b q h back long zero l = record { puts = ap length back.puts ∙ long; given = back.given }
+all_gone : (w v : World) (b : Beyond) (q h : ℕ → ℕ) → IsGone 0 w v q h b → length (direction_at w 0 Client).prepares ≡ q 0 → (j : ℕ) → j ≤ length w.nodes → HasGone (q j) (h j) (direction_at v j Client)
+all_gone w v b q h back long zero l = record { prepares = ap length back.prepares ∙ long; given = back.given }
 all_gone w v b q h back long (suc j) l = back.later (suc j) (omega arith) l
 
-fault_ends : (w mid u v : World) (e : EndState) (hops : List Hop) (f gone : EndState) (p g q h : ℕ → ℕ) (flight : flights.Open) (bytes : List ℕ) (b : Beyond) (now : ℤ) (told : Told) → IsSettled w e hops f p g → mid ≡ with_put (with_end w Client gone) 0 Client (put_by flight bytes) → IsGone 0 mid u q h b → q 0 ≡ suc (p 0)
+fault_ends : (w mid u v : World) (e : EndState) (hops : List Hop) (f gone : EndState) (p g q h : ℕ → ℕ) (flight : flights.Open) (bytes : List ℕ) (b : Beyond) (now : ℤ) (told : Told) → IsSettled w e hops f p g → mid ≡ with_prepare (with_end w Client gone) 0 Client (prepare_of_flight flight bytes) → IsGone 0 mid u q h b → q 0 ≡ suc (p 0)
     → Step u (Fault 0 Client (suc (p 0)) now) told v → (v.ledgers ≡ w.ledgers) × IsSettled v (ended gone flight None) b.hops b.end q h
 fault_ends w mid u v e hops f gone p g q h flight bytes b now told rest is back one_put step =
     let on = sent_on_link w mid e hops f gone p g flight bytes rest is in
-    let put_is : nth (lane_at u 0 Client).puts (suc (p 0)) ≡ Some (put_by flight bytes) = ap (λ ps. slice_get ps (p 0)) back.puts ∙ sent_put w mid e hops f gone p g flight bytes rest is in
-    let at_put : Back u 0 Client 0 now None (Some (put_by flight bytes)) told v = subst (λ o. Back u 0 Client 0 now None o told v) put_is step in
+    let put_is : nth (direction_at u 0 Client).prepares (suc (p 0)) ≡ Some (prepare_of_flight flight bytes) = ap (λ ps. slice_get ps (p 0)) back.prepares ∙ sent_put w mid e hops f gone p g flight bytes rest is in
+    let at_put : Back u 0 Client 0 now None (Some (prepare_of_flight flight bytes)) told v = subst (λ o. Back u 0 Client 0 now None o told v) put_is step in
     let client : end_at u Client ≡ gone = back.client ∙ ap (λ z. end_at z Client) is in
-    let at_end : BackAtEnd u 0 Client 0 (put_by flight bytes) None Client (open_flight gone flight) told v = subst (λ z. BackAtEnd u 0 Client 0 (put_by flight bytes) None Client (open_flight z flight) told v) client at_put in
-    let ends = ends_faulted u v gone flight (put_by flight bytes) told (open_flight gone flight) client refl at_end in
+    let at_end : BackAtEnd u 0 Client 0 (prepare_of_flight flight bytes) None Client (open_flight gone flight) told v = subst (λ z. BackAtEnd u 0 Client 0 (prepare_of_flight flight bytes) None Client (open_flight z flight) told v) client at_put in
+    let ends = ends_faulted u v gone flight (prepare_of_flight flight bytes) told (open_flight gone flight) client refl at_end in
     let many = back.count in
     let nodes_same : length v.nodes ≡ length u.nodes = ap length ends.nodes in (
       ends.ledgers ∙ back.ledgers ∙ ap (λ (z : World). z.ledgers) is,
@@ -189,7 +189,7 @@ fault_ends w mid u v e hops f gone p g q h flight bytes b now told rest is back 
         server = ends.server ∙ back.server;
         hops_are = ap (map state_of) ends.nodes ∙ back.nodes;
         links = (let a = ends.links in let c = back.links in let k = on.links in omega (arith, a, c, k, nodes_same, many));
-        lanes = λ j l. ends.lanes (q j) (h j) j (all_gone mid u b q h back (on.puts ∙ sym one_put) j (omega (arith, l, nodes_same, many)));
+        lanes = λ j l. ends.lanes (q j) (h j) j (all_gone mid u b q h back (on.prepares ∙ sym one_put) j (omega (arith, l, nodes_same, many)));
       },
     )
 

@@ -5,7 +5,7 @@ use Rattle.st_frames.specs.Frames.{ConnectionClose, ConnectionDataBlocked, Conne
 use Rattle.st_sender.specs.Sending.{Config, Load, Outgoing, Sending, changed_at, outgoing_at}
 use Rattle.st_sender.specs.Flights.{all_ends, flight_of, highest_end, sent_end}
 use Rattle.st_sender.specs.Loads.{with_flight}
-use Rattle.st_sender.specs.Answering.{after_all_told, after_fulfilled, after_told, told_data, told_receive_max}
+use Rattle.st_sender.specs.Answering.{after_all_told, after_fulfilled, after_told, told_data, advertised_receive_max}
 use Rattle.st_world_quiet.specs.Quiet.{IsQuiet, IsWaiting}
 use Rattle.st_world_quiet.specs.Left.{all_money_left, bound, money_left, work_left}
 use Rattle.st_world_quiet.specs.Rounds.{IsOpening, IsRefilled, IsWritten, Refilled, Round, once_fulfilled}
@@ -121,7 +121,7 @@ failures_changed s j f (Some x) = refl
 
 failures_told : (s : Sending) (f : Known) → (after_told s f).failures ≡ s.failures
 failures_told s (StreamMaxData j v) = failures_changed s j (told_data v) (outgoing_at s j)
-failures_told s (StreamMaxMoney j a t) = failures_changed s j (told_receive_max a t) (outgoing_at s j)
+failures_told s (StreamMaxMoney j a t) = failures_changed s j (advertised_receive_max a t) (outgoing_at s j)
 failures_told s (ConnectionMaxData v) = refl
 failures_told s (StreamData j o xs) = refl
 failures_told s (StreamMoney j n) = refl

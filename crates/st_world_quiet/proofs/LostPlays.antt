@@ -14,7 +14,7 @@ use Rattle.st_end.specs.State.{EndState, new_end}
 use Rattle.st_end.specs.Calls.{open_stream}
 use Rattle.st_end.specs.Sending.{GoesNone}
 use Rattle.st_world_parts.specs.Sides.{Client, IsPrefixOf, Server}
-use Rattle.st_world_parts.specs.State.{World, end_at, lane_at, ledger_at}
+use Rattle.st_world_parts.specs.State.{World, end_at, direction_at, log_at}
 use Rattle.st_world.specs.Runs.{Chain, Table, new_node, opening}
 use Rattle.st_world.proofs.DataSent.{OutFine}
 use Rattle.st_world_quiet.specs.Left.{all_money_left, bound, work_left}
@@ -89,8 +89,8 @@ module _ (c : Chain) (input : ℕ → List ℕ) (money most : ℕ → ℕ) (stre
       (subst (λ n. n + work_left (lengths input) fated.client.sending ≤ work_left (lengths input) first.sending + losses.losses fates) (fates_long course 0 m) (run_sharper_by (lengths input) money c.config fates first far_end fated.client fated.server may.input_fits opens.begun_is.opens trips))
 
   -- each Send put one Prepare on the first link
-  pub lossy_puts : length (lane_at v 0 Client).puts ≡ m
-  lossy_puts = let there = (fated.rests.lanes 0 (omega arith)).puts in let is = all_first course (0 + m) in there ∙ is ∙ omega arith
+  pub lossy_puts : length (direction_at v 0 Client).prepares ≡ m
+  lossy_puts = let there = (fated.rests.lanes 0 (omega arith)).prepares in let is = all_first course (0 + m) in there ∙ is ∙ omega arith
 
   lossy_offers : (k : ℕ) → offer_of (outgoing_at (end_at v Client).sending k) ≡ offer_of (outgoing_at first.sending k)
   lossy_offers k = subst (λ (z : EndState). offer_of (outgoing_at z.sending k) ≡ offer_of (outgoing_at first.sending k)) (sym fated.rests.client) (fated.offers k)
@@ -124,16 +124,16 @@ module _ (c : Chain) (input : ℕ → List ℕ) (money most : ℕ → ℕ) (stre
       by [] is = sym (append-nil xs) ∙ is
       by (b ∷ bs) is = absurd (let all : length (xs ++ b ∷ bs) ≡ length ys = ap length is in let sum = length-append xs (b ∷ bs) in omega (arith, all, sum, long))
 
-  pub lossy_reads_whole : (k : ℕ) (x : Outgoing) → GoesNone (end_at v Client) → outgoing_at (end_at v Client).sending k ≡ Some x → ((ledger_at v Client k).read ≡ input k) × ((ledger_at v Client k).written ≡ input k)
+  pub lossy_reads_whole : (k : ℕ) (x : Outgoing) → GoesNone (end_at v Client) → outgoing_at (end_at v Client).sending k ≡ Some x → ((log_at v Client k).read ≡ input k) × ((log_at v Client k).written ≡ input k)
   lossy_reads_whole k x none at =
       let here = here_at k x at in
       let all = all_done (lengths input) fated.client.sending k x fated.quiet (done none) here in
       let told = ledgered_by c v fated.client fated.server k fated.is_reached fated.rests.client fated.rests.server in
-      let written = subst (OutFine (ledger_at v Client k).written) here told.written in
+      let written = subst (OutFine (log_at v Client k).written) here told.written in
       let read = (lossy_delivers k x none at).0 in
-      let count : length (ledger_at v Client k).read ≡ length (input k) = told.read ∙ ap (λ (z : EndState). (incoming_at z.receiving k).held.read) (sym fated.rests.server) ∙ read in
-      let whole = same_list (ledger_at v Client k).written (input k) (fated.copies k) (sym written.0 ∙ all.all_bytes) in
-      (same_list (ledger_at v Client k).read (ledger_at v Client k).written (ledger_prefix c v k fated.is_reached) (count ∙ sym all.all_bytes ∙ written.0) ∙ whole, whole)
+      let count : length (log_at v Client k).read ≡ length (input k) = told.read ∙ ap (λ (z : EndState). (incoming_at z.receiving k).held.read) (sym fated.rests.server) ∙ read in
+      let whole = same_list (log_at v Client k).written (input k) (fated.copies k) (sym written.0 ∙ all.all_bytes) in
+      (same_list (log_at v Client k).read (log_at v Client k).written (ledger_prefix c v k fated.is_reached) (count ∙ sym all.all_bytes ∙ written.0) ∙ whole, whole)
 
   pub lossy_ends : (k bytes : ℕ) (x : Outgoing) → GoesNone (end_at v Client) → outgoing_at (end_at v Client).sending k ≡ Some x → got bytes (incoming_at (end_at v Server).receiving k).held ≡ End
   lossy_ends k bytes x none at =
@@ -334,8 +334,8 @@ module _ (c : Chain) (xs : List (List ℕ)) (ms rs : List ℕ) (courses : List C
       within a left b d l g x y z = omega arith
 
   -- reads put nothing on a link
-  pub played_lossy_sends : (w : World) → Met v (reads limit 0 65) w → length (lane_at w 0 Client).puts ≡ m
-  played_lossy_sends w each = ap (λ links. length (lane_at (record v { links = links }) 0 Client).puts) (reads_leave_links limit 0 65 v w each) ∙ lossy_puts c (input_of xs) (money_of ms) (money_of rs) (length xs) limit m (course_at courses) v may_go run
+  pub played_lossy_sends : (w : World) → Met v (reads limit 0 65) w → length (direction_at w 0 Client).prepares ≡ m
+  played_lossy_sends w each = ap (λ links. length (direction_at (record v { links = links }) 0 Client).prepares) (reads_leave_links limit 0 65 v w each) ∙ lossy_puts c (input_of xs) (money_of ms) (money_of rs) (length xs) limit m (course_at courses) v may_go run
 
   ends_at : GoesNone (end_at v Client) → (i : ℕ) → i < length xs → TellsEnd (2 * i + 1) v
   ends_at none i low bytes = let x = lossy_opens c (input_of xs) (money_of ms) (money_of rs) (length xs) limit m (course_at courses) v may_go run i low in lossy_ends c (input_of xs) (money_of ms) (money_of rs) (length xs) limit m (course_at courses) v may_go run (2 * i + 1) bytes x.0 none x.1
@@ -357,7 +357,7 @@ module _ (c : Chain) (xs : List (List ℕ)) (ms rs : List ℕ) (courses : List C
       record {
         written = left.0.written ∙ whole.1 ∙ at_odd xs [] i;
         read = left.0.read ∙ whole.0 ∙ at_odd xs [] i;
-        told_end = left.1 (omega arith) (omega (arith, few, low));
+        saw_end = left.1 (omega arith) (omega (arith, few, low));
         credited = paid_is.0;
         within = paid_is.1;
       }

@@ -112,12 +112,12 @@ forwards c n e hops iv now quiet calm moment early flight bytes gone goes =
     (load_room c n e gone iv bytes now flight goes _ (put_back _ _ _ few)) moment early)
 
 settled_as : (v : World) (e : EndState) (hops : List Hop) (f : EndState) (p g q h : ℕ → ℕ) → ((j : ℕ) → p j ≡ q j) → ((j : ℕ) → g j ≡ h j) → IsSettled v e hops f p g → IsSettled v e hops f q h
-settled_as v e hops f p g q h puts gives rest = record {
+settled_as v e hops f p g q h prepares gives rest = record {
   client = rest.client;
   server = rest.server;
   hops_are = rest.hops_are;
   links = rest.links;
-  lanes = λ j l. (let lane = rest.lanes j l in record { puts = lane.puts ∙ puts j; given = lane.given ∙ gives j });
+  lanes = λ j l. (let lane = rest.lanes j l in record { prepares = lane.prepares ∙ prepares j; given = lane.given ∙ gives j });
 }
 
 -- ---- one Send, and what becomes of it

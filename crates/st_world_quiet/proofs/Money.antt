@@ -161,7 +161,7 @@ free_is n s k None e quiet = refl
 free_is n s k (Some x) e quiet =
     let w = quiet.streams k x e in
     let d = due_is_left s k x quiet.alone w.alive in
-    rw d (room_is x.told_money (flying_money s k) (x.offered - x.fulfilled) (flies_none s k quiet.alone) (λ told e. let h = w.may_pay told e in omega (arith, h)))
+    rw d (room_is x.advertised_money (flying_money s k) (x.offered - x.fulfilled) (flies_none s k quiet.alone) (λ told e. let h = w.may_pay told e in omega (arith, h)))
 
 pub all_free : (n : ℕ → ℕ) (s : Sending) → IsQuiet n s → all_free_money s ≡ all_money_left s
 all_free n s quiet = sum_same (λ k. free_money s k (outgoing_at s k)) (λ k. money_left (outgoing_at s k)) (λ k. free_is n s k (outgoing_at s k) refl quiet) 0 65

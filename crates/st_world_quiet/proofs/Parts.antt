@@ -2,8 +2,8 @@
 use Rattle.std.proofs.Common.{◌≡◌, ◌≢◌, ℕ, suc, ◌+◌, ◌-◌, true, false, List, [], ◌∷◌, length, take, drop, refl, sym, ap, subst, ◌∙◌, arith, ℤ, pos, nat_eq, Ok}
 use Rattle.std.proofs.lemmas.Bool.Decides.{nat_tests}
 use Rattle.st_world_parts.specs.Sides.{Client}
-use Rattle.st_world_parts.specs.State.{World, ledger_at}
-use Rattle.st_world_parts.specs.Ledgers.{Ledger}
+use Rattle.st_world_parts.specs.State.{World, log_at}
+use Rattle.st_world_parts.specs.StreamLogs.{StreamLog}
 use Rattle.st_world_parts.specs.Events.{Close, Offer, OpenStream, Opened, Send, Sent, Write}
 use Rattle.st_world.specs.Steps.{Step}
 use Rattle.st_world_quiet.specs.Worlds.{Met, passing}
@@ -14,13 +14,13 @@ use Rattle.st_world_quiet.proofs.PlayedRuns.{met_on}
 
 -- ---- writes
 
-fits_are : (xs : List ℕ) (l : Ledger) (written read : ℕ) (piece : List ℕ) → written ≡ length l.written → read ≡ length l.read → piece ≡ take (read + 262144 - written) (drop written xs) → piece ≡ fits xs l
+fits_are : (xs : List ℕ) (l : StreamLog) (written read : ℕ) (piece : List ℕ) → written ≡ length l.written → read ≡ length l.read → piece ≡ take (read + 262144 - written) (drop written xs) → piece ≡ fits xs l
 fits_are xs l written read piece wrote had is = is ∙ (rw (wrote, had) refl)
 
-pub wrote_part : (xs : List ℕ) (k : ℕ) (w v : World) (written read : ℕ) (piece : List ℕ) → let l = ledger_at w Client k in
+pub wrote_part : (xs : List ℕ) (k : ℕ) (w v : World) (written read : ℕ) (piece : List ℕ) → let l = log_at w Client k in
     written ≡ length l.written → read ≡ length l.read → piece ≡ take (read + 262144 - written) (drop written xs) → written + length piece ≢ length xs → Met w (Write Client k piece ∷ []) v → Met w (writes xs k l) v
 wrote_part xs k w v written read piece wrote had is apart one =
-    let l = ledger_at w Client k in
+    let l = log_at w Client k in
     let same : piece ≡ fits xs l = fits_are xs l written read piece wrote had is in
     let long : length piece ≡ length (fits xs l) = ap length same in
     let no : nat_eq (length l.written + length (fits xs l)) (length xs) ≡ false = unequal _ _ (λ e. apart (omega (arith, e, long, wrote))) in
@@ -29,10 +29,10 @@ wrote_part xs k w v written read piece wrote had is apart one =
     unequal : (n m : ℕ) → n ≢ m → nat_eq n m ≡ false
     unequal n m apart = grind (arith, nat_tests)
 
-pub wrote_all : (xs : List ℕ) (k : ℕ) (w a v : World) (written read : ℕ) (piece : List ℕ) → let l = ledger_at w Client k in
+pub wrote_all : (xs : List ℕ) (k : ℕ) (w a v : World) (written read : ℕ) (piece : List ℕ) → let l = log_at w Client k in
     written ≡ length l.written → read ≡ length l.read → piece ≡ take (read + 262144 - written) (drop written xs) → written + length piece ≡ length xs → Met w (Write Client k piece ∷ []) a → Met a (Close Client k ∷ []) v → Met w (writes xs k l) v
 wrote_all xs k w a v written read piece wrote had is at one close =
-    let l = ledger_at w Client k in
+    let l = log_at w Client k in
     let same : piece ≡ fits xs l = fits_are xs l written read piece wrote had is in
     let long : length piece ≡ length (fits xs l) = ap length same in
     let yes : nat_eq (length l.written + length (fits xs l)) (length xs) ≡ true = equal _ _ (let e : length l.written + length (fits xs l) ≡ length xs = omega (arith, at, long, wrote) in e) in
@@ -56,14 +56,14 @@ pub open_on : (k : ℕ) (w a : World) → Step w (OpenStream Client) (Opened (Ok
 open_on k w a opens = met_on (OpenStream Client ∷ []) w a (a, Opened (Ok k), tt, opens, refl)
 
 pub begins_by : (input : ℕ → List ℕ) (money : ℕ → ℕ) (k amount : ℕ) (bytes : List ℕ) (w a b v : World) → amount ≡ money k → bytes ≡ input k → Step w (OpenStream Client) (Opened (Ok k)) a → Met a (Offer Client k amount ∷ []) b
-    → Met b (writes bytes k (ledger_at b Client k)) v → Begins input money w v
+    → Met b (writes bytes k (log_at b Client k)) v → Begins input money w v
 begins_by input money k amount bytes w a b v paid given opens offers wrote = record {
   stream = k;
   opened = a;
   offered = b;
   opens = opens;
   offers = subst (λ n. Met a (Offer Client k n ∷ []) b) paid offers;
-  writes_first = subst (λ ys. Met b (writes ys k (ledger_at b Client k)) v) given wrote;
+  writes_first = subst (λ ys. Met b (writes ys k (log_at b Client k)) v) given wrote;
 }
 
 -- ---- a round

@@ -3,7 +3,7 @@ use Rattle.std.proofs.Common.{◌≡◌, ℕ, zero, suc, ◌+◌, List, [], ◌�
 use Rattle.std.specs.Prelude.{IfErr, OnOk}
 use Rattle.std.specs.Result.{IsErrAnd}
 use Rattle.st_world_parts.specs.Sides.{Client}
-use Rattle.st_world_parts.specs.State.{World, ledger_at}
+use Rattle.st_world_parts.specs.State.{World, log_at}
 use Rattle.st_world_parts.specs.Events.{Event, Offer, OpenStream, Opened, Send, Sent}
 use Rattle.st_world.specs.Runs.{Run}
 use Rattle.st_world_quiet.specs.Worlds.{Met, passing}
@@ -32,7 +32,7 @@ met_on events w v met = (events, met_run events w v met)
 pub writes_on : (input : ℕ → List ℕ) (first count : ℕ) (w v : World) → Writes input first count w v → Continues w v
 writes_on input first zero w v run = still w v run
 writes_on input first (suc m) w v run =
-    then w run.0 v (met_on (writes (input first) first (ledger_at w Client first)) w run.0 run.1) (writes_on input (first + 1) m run.0 v run.2)
+    then w run.0 v (met_on (writes (input first) first (log_at w Client first)) w run.0 run.1) (writes_on input (first + 1) m run.0 v run.2)
 
 pub round_on : (input : ℕ → List ℕ) (limit hops count : ℕ) (w v : World) → Round input limit hops count w v → Continues w v
 round_on input limit hops count w v r =
@@ -48,7 +48,7 @@ begin_on : (input : ℕ → List ℕ) (money : ℕ → ℕ) (w v : World) → Be
 begin_on input money w v b =
     then w b.opened v (met_on (OpenStream Client ∷ []) w b.opened (b.opened, Opened (Ok b.stream), tt, b.opens, refl))
     (then b.opened b.offered v (met_on (Offer Client b.stream (money b.stream) ∷ []) b.opened b.offered b.offers)
-    (met_on (writes (input b.stream) b.stream (ledger_at b.offered Client b.stream)) b.offered v b.writes_first))
+    (met_on (writes (input b.stream) b.stream (log_at b.offered Client b.stream)) b.offered v b.writes_first))
 
 pub begins_on : (input : ℕ → List ℕ) (money : ℕ → ℕ) (count : ℕ) (w v : World) → BeginsEach input money count w v → Continues w v
 begins_on input money zero w v run = still w v run

@@ -10,7 +10,7 @@ use Rattle.st_end.specs.State.{EndState}
 use Rattle.st_end.specs.Calls.{open_stream}
 use Rattle.st_end.specs.Sending.{GoesNone}
 use Rattle.st_world_parts.specs.Sides.{Client, Server}
-use Rattle.st_world_parts.specs.State.{World, end_at, lane_at}
+use Rattle.st_world_parts.specs.State.{World, end_at, direction_at}
 use Rattle.st_world.specs.Runs.{Chain, opening}
 use Rattle.st_world_quiet.specs.Left.{all_money_left, bound, prepares_left, work_left}
 use Rattle.st_world_quiet.specs.Exchanges.{IsModest}
@@ -127,8 +127,8 @@ module _ (c : Chain) (xs : List (List ℕ)) (ms : List ℕ) (limit m : ℕ) (v :
       within a left b d x y = omega arith
 
   -- reads put nothing on a link
-  pub played_sends : (w : World) → Met v (reads limit 0 65) w → length (lane_at w 0 Client).puts ≡ m
-  played_sends w each = ap (λ links. length (lane_at (record v { links = links }) 0 Client).puts) (reads_leave_links limit 0 65 v w each) ∙ run_puts c (input_of xs) (money_of ms) (length xs) limit m v may_go run
+  pub played_sends : (w : World) → Met v (reads limit 0 65) w → length (direction_at w 0 Client).prepares ≡ m
+  played_sends w each = ap (λ links. length (direction_at (record v { links = links }) 0 Client).prepares) (reads_leave_links limit 0 65 v w each) ∙ run_puts c (input_of xs) (money_of ms) (length xs) limit m v may_go run
 
   ends_at : GoesNone (end_at v Client) → (i : ℕ) → i < length xs → TellsEnd (2 * i + 1) v
   ends_at none i low most = let x = run_opens c (input_of xs) (money_of ms) (length xs) limit m v may_go run i low in run_ends c (input_of xs) (money_of ms) (length xs) limit m v may_go run (2 * i + 1) most x.0 none x.1
@@ -144,7 +144,7 @@ module _ (c : Chain) (xs : List (List ℕ)) (ms : List ℕ) (limit m : ℕ) (v :
       record {
         written = left.0.written ∙ whole.1 ∙ at_odd xs [] i;
         read = left.0.read ∙ whole.0 ∙ at_odd xs [] i;
-        told_end = left.1 (omega arith) (omega (arith, few, low));
+        saw_end = left.1 (omega arith) (omega (arith, few, low));
         credited = ap (λ y. y.credited) left.0.incoming ∙ paid ∙ at_odd ms 0 i;
       }
 

@@ -75,12 +75,12 @@ from_flat_map f a (suc m) y h =
       | inr later ↦ from_flat_map f (a + 1) m y later
     ]
 
-told_money : (b c : Bool) (j k m t : ℕ) (x : Incoming) → Contains (cond b (cond c (told_by j x) []) []) (StreamMaxMoney k m t) → (j ≡ k) × (x.receive_max ≡ m) × (x.credited ≡ t)
-told_money true true j k m t x (zero, l, e) = absurd (cc)
-told_money true true j k m t x (suc zero, l, e) = (let a : j ≡ k = cc in a, let b : x.receive_max ≡ m = cc in b, let c : x.credited ≡ t = cc in c)
-told_money true true j k m t x (suc (suc i), l, e) = absurd (omega (arith, l))
-told_money true false j k m t x h = absurd (let l = h.1 in omega (arith, l))
-told_money false c j k m t x h = absurd (let l = h.1 in omega (arith, l))
+advertised_money : (b c : Bool) (j k m t : ℕ) (x : Incoming) → Contains (cond b (cond c (told_by j x) []) []) (StreamMaxMoney k m t) → (j ≡ k) × (x.receive_max ≡ m) × (x.credited ≡ t)
+advertised_money true true j k m t x (zero, l, e) = absurd (cc)
+advertised_money true true j k m t x (suc zero, l, e) = (let a : j ≡ k = cc in a, let b : x.receive_max ≡ m = cc in b, let c : x.credited ≡ t = cc in c)
+advertised_money true true j k m t x (suc (suc i), l, e) = absurd (omega (arith, l))
+advertised_money true false j k m t x h = absurd (let l = h.1 in omega (arith, l))
+advertised_money false c j k m t x h = absurd (let l = h.1 in omega (arith, l))
 
 -- a receive max in a reply is that of its stream
 money_in_reply : (r : Receiving) (fs : List Known) (k m t : ℕ) → Contains (reply_frames r fs) (StreamMaxMoney k m t) → ((incoming_at r k).receive_max ≡ m) × ((incoming_at r k).credited ≡ t)
@@ -88,7 +88,7 @@ unfolding reply_frames
 money_in_reply r fs k m t (zero, l, e) = absurd (cc)
 money_in_reply r fs k m t (suc i, l, e) =
     let at = from_flat_map (named_limits r fs) 1 64 (StreamMaxMoney k m t) (i, omega (arith, l), e) in
-    let is = told_money (list_any (names at.0) fs) (may_name r at.0) at.0 k m t (incoming_at r at.0) at.1 in
+    let is = advertised_money (list_any (names at.0) fs) (may_name r at.0) at.0 k m t (incoming_at r at.0) at.1 in
     (subst (λ j. (incoming_at r j).receive_max ≡ m) is.0 is.1, subst (λ j. (incoming_at r j).credited ≡ t) is.0 is.2)
 
 -- a stream is credited its shares

@@ -10,7 +10,7 @@ use Rattle.st_frames.specs.Frames.{ConnectionClose, ConnectionDataBlocked, Conne
 use Rattle.st_sender.specs.Sending.{Marks, Outgoing, Sending, changed_at, outgoing_at}
 use Rattle.st_sender.specs.Flights.{flown}
 use Rattle.st_sender.specs.Due.{IsDue}
-use Rattle.st_sender.specs.Answering.{after_acked, after_all_acked, after_all_told, after_told, raised_money, told_data, told_receive_max}
+use Rattle.st_sender.specs.Answering.{after_acked, after_all_acked, after_all_told, after_told, raised_money, told_data, advertised_receive_max}
 use Rattle.st_world_quiet.specs.Quiet.{IsQuiet}
 use Rattle.st_world_quiet.proofs.Acknowledging.{is_same, none_changed, own_change}
 use Rattle.st_world_quiet.proofs.Lowering.{no_limit_due, no_slot}
@@ -19,7 +19,7 @@ use Rattle.st_world_quiet.proofs.Lowering.{no_limit_due, no_slot}
 
 abbrev pub own_told : ℕ → Known → Outgoing → Outgoing
 own_told k (StreamMaxData j m) x = cond (nat_eq j k) (told_data m x) x
-own_told k (StreamMaxMoney j m t) x = cond (nat_eq j k) (told_receive_max m t x) x
+own_told k (StreamMaxMoney j m t) x = cond (nat_eq j k) (advertised_receive_max m t x) x
 own_told k f x = x
 
 abbrev pub all_own_told : ℕ → List Known → Outgoing → Outgoing
@@ -28,7 +28,7 @@ all_own_told k (f ∷ fs) x = all_own_told k fs (own_told k f x)
 
 told_at : (s : Sending) (k : ℕ) (f : Known) (x : Outgoing) → outgoing_at s k ≡ Some x → outgoing_at (after_told s f) k ≡ Some (own_told k f x)
 told_at s k (StreamMaxData j m) x e = own_change s j k (told_data m) x e
-told_at s k (StreamMaxMoney j m t) x e = own_change s j k (told_receive_max m t) x e
+told_at s k (StreamMaxMoney j m t) x e = own_change s j k (advertised_receive_max m t) x e
 told_at s k (ConnectionMaxData v) x e = e
 told_at s k (StreamData j o xs) x e = e
 told_at s k (StreamMoney j n) x e = e
@@ -45,7 +45,7 @@ all_told_at s k (f ∷ fs) x e = all_told_at (after_told s f) k fs (own_told k f
 
 none_told : (s : Sending) (k : ℕ) (f : Known) → outgoing_at s k ≡ None → outgoing_at (after_told s f) k ≡ None
 none_told s k (StreamMaxData j m) e = none_changed s j k (told_data m) e
-none_told s k (StreamMaxMoney j m t) e = none_changed s j k (told_receive_max m t) e
+none_told s k (StreamMaxMoney j m t) e = none_changed s j k (advertised_receive_max m t) e
 none_told s k (ConnectionMaxData v) e = e
 none_told s k (StreamData j o xs) e = e
 none_told s k (StreamMoney j n) e = e
@@ -92,7 +92,7 @@ only_data : (b : Bool) (m : ℕ) (x : Outgoing) → IsToldOnly x (cond b (told_d
 only_data true m x = record { accepted = refl; unacked = refl; acked_end = refl; offered = refl; fulfilled = refl; clean = refl; abort = refl; clean_settled = refl; told = omega arith }
 only_data false m x = only_same x
 
-only_money : (b : Bool) (m t : ℕ) (x : Outgoing) → IsToldOnly x (cond b (told_receive_max m t x) x)
+only_money : (b : Bool) (m t : ℕ) (x : Outgoing) → IsToldOnly x (cond b (advertised_receive_max m t x) x)
 only_money true m t x = record { accepted = refl; unacked = refl; acked_end = refl; offered = refl; fulfilled = refl; clean = refl; abort = refl; clean_settled = refl; told = omega arith }
 only_money false m t x = only_same x
 
@@ -131,15 +131,15 @@ room_raised offered fulfilled (Some old) m t a h told e =
     higher : (a b m t : ℕ) → b + offered ≤ a + fulfilled → t + offered ≤ m + fulfilled → max b t + offered ≤ max a m + fulfilled
     higher a b m t c d = omega arith
 
-money_if : (b : Bool) (offered fulfilled m t : ℕ) (x : Outgoing) → (b ≡ true → t + offered ≤ m + fulfilled) → LeavesRoom offered fulfilled x.told_money → LeavesRoom offered fulfilled (cond b (told_receive_max m t x) x).told_money
-money_if true offered fulfilled m t x h room = room_raised offered fulfilled x.told_money m t (h refl) room
+money_if : (b : Bool) (offered fulfilled m t : ℕ) (x : Outgoing) → (b ≡ true → t + offered ≤ m + fulfilled) → LeavesRoom offered fulfilled x.advertised_money → LeavesRoom offered fulfilled (cond b (advertised_receive_max m t x) x).advertised_money
+money_if true offered fulfilled m t x h room = room_raised offered fulfilled x.advertised_money m t (h refl) room
 money_if false offered fulfilled m t x h room = room
 
-data_if : (b : Bool) (offered fulfilled m : ℕ) (x : Outgoing) → LeavesRoom offered fulfilled x.told_money → LeavesRoom offered fulfilled (cond b (told_data m x) x).told_money
+data_if : (b : Bool) (offered fulfilled m : ℕ) (x : Outgoing) → LeavesRoom offered fulfilled x.advertised_money → LeavesRoom offered fulfilled (cond b (told_data m x) x).advertised_money
 data_if true offered fulfilled m x room = room
 data_if false offered fulfilled m x room = room
 
-own_room : (k offered fulfilled : ℕ) (f : Known) (x : Outgoing) → FrameLeavesRoom k offered fulfilled f → LeavesRoom offered fulfilled x.told_money → LeavesRoom offered fulfilled (own_told k f x).told_money
+own_room : (k offered fulfilled : ℕ) (f : Known) (x : Outgoing) → FrameLeavesRoom k offered fulfilled f → LeavesRoom offered fulfilled x.advertised_money → LeavesRoom offered fulfilled (own_told k f x).advertised_money
 own_room k offered fulfilled (StreamMaxData j m) x h room = data_if (nat_eq j k) offered fulfilled m x room
 own_room k offered fulfilled (StreamMaxMoney j m t) x h room = elim (cases_eq j k) [
   | inl same ↦ money_if (nat_eq j k) offered fulfilled m t x (λ b. h m t (ap (λ i. StreamMaxMoney i m t) same)) room
@@ -150,8 +150,8 @@ own_room k offered fulfilled (StreamMaxMoney j m t) x h room = elim (cases_eq j 
     eq_true j k b = grind (arith, nat_tests)
 own_room k offered fulfilled f x h room = room
 
-pub all_room : (k offered fulfilled : ℕ) (fs : List Known) (x : Outgoing) → ((f : Known) → Contains fs f → FrameLeavesRoom k offered fulfilled f) → LeavesRoom offered fulfilled x.told_money
-    → LeavesRoom offered fulfilled (all_own_told k fs x).told_money
+pub all_room : (k offered fulfilled : ℕ) (fs : List Known) (x : Outgoing) → ((f : Known) → Contains fs f → FrameLeavesRoom k offered fulfilled f) → LeavesRoom offered fulfilled x.advertised_money
+    → LeavesRoom offered fulfilled (all_own_told k fs x).advertised_money
 all_room k offered fulfilled [] x h room = room
 all_room k offered fulfilled (f ∷ fs) x h room =
     all_room k offered fulfilled fs (own_told k f x) (λ g c. h g (suc c.0, (let l = c.1 in omega (arith, l)), c.2)) (own_room k offered fulfilled f x (h f (zero, omega arith, refl)) room)
@@ -189,7 +189,7 @@ rest_changed s j f (Some x) = record { config = refl; flights = refl; last = ref
 
 rest_told : (s : Sending) (f : Known) → IsSameRest s (after_told s f)
 rest_told s (StreamMaxData j m) = rest_changed s j (told_data m) (outgoing_at s j)
-rest_told s (StreamMaxMoney j m t) = rest_changed s j (told_receive_max m t) (outgoing_at s j)
+rest_told s (StreamMaxMoney j m t) = rest_changed s j (advertised_receive_max m t) (outgoing_at s j)
 rest_told s (ConnectionMaxData v) = record { config = refl; flights = refl; last = refl; marks = refl; packet_limit = refl; failed = refl; slots = refl; told = omega arith }
 rest_told s (StreamData j o xs) = rest_same s
 rest_told s (StreamMoney j n) = rest_same s
@@ -204,13 +204,13 @@ pub rest_all_told : (s : Sending) (fs : List Known) → IsSameRest s (after_all_
 rest_all_told s [] = rest_same s
 rest_all_told s (f ∷ fs) = rest_then s (after_told s f) (after_all_told (after_told s f) fs) (rest_told s f) (rest_all_told (after_told s f) fs)
 
-pub connection_told : (v : ℕ) (fs : List Known) (s : Sending) → Contains fs (ConnectionMaxData v) → v ≤ (after_all_told s fs).told
-connection_told v [] s h = absurd (let l = h.1 in omega (arith, l))
-connection_told v (f ∷ fs) s (zero, l, e) =
+pub connection_advertised : (v : ℕ) (fs : List Known) (s : Sending) → Contains fs (ConnectionMaxData v) → v ≤ (after_all_told s fs).told
+connection_advertised v [] s h = absurd (let l = h.1 in omega (arith, l))
+connection_advertised v (f ∷ fs) s (zero, l, e) =
     let first : v ≤ (after_told s f).told = subst (λ g. v ≤ (after_told s g).told) (sym e) (omega arith) in
     let rest = (rest_all_told (after_told s f) fs).told in
     omega (arith, first, rest)
-connection_told v (f ∷ fs) s (suc i, l, e) = connection_told v fs (after_told s f) (i, omega arith, e)
+connection_advertised v (f ∷ fs) s (suc i, l, e) = connection_advertised v fs (after_told s f) (i, omega arith, e)
 
 -- a Fulfill changes no more, since no raised limit is ever due in a lossless run
 rest_acked : (n : ℕ → ℕ) (q s : Sending) (limits : List Known) (f : Known) → IsQuiet n q → IsDue q limits f → IsSameRest s (after_acked s (flown f))

@@ -14,11 +14,11 @@ use Rattle.st_world_quiet.specs.Playing.{OpensNone, Sends, SendsNone, Stops, Tel
 pub tells_met : (w v : World) (event : Event) (told : Told) → Happens w event told v → v.refused ≡ false → Tells event told w v
 tells_met w v event told h none = elim h.1 [
   | inl met ↦ (h.0, met)
-  | inr lacks ↦ absurd (let noted : v.refused ≡ true = ap (λ (z : World). z.refused) lacks.3 in let clash : ◌≡◌ {A = Bool} true false = sym noted ∙ none in cc)
+  | inr lacks ↦ absurd (let with_refusal : v.refused ≡ true = ap (λ (z : World). z.refused) lacks.3 in let clash : ◌≡◌ {A = Bool} true false = sym with_refusal ∙ none in cc)
 ]
 
 pub stops_refused : (w v : World) (event : Event) (told : Told) → Happens w event told v → v.refused ≡ true → Stops ⊥ ⊥ Refused w v
-stops_refused w v event told h noted = record { goes_on = (event ∷ [], (v, told, h, refl)); why = noted }
+stops_refused w v event told h with_refusal = record { goes_on = (event ∷ [], (v, told, h, refl)); why = with_refusal }
 
 -- ---- a Send
 

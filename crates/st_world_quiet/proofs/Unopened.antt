@@ -12,8 +12,8 @@ use Rattle.st_end.specs.State.{EndState}
 use Rattle.st_end.specs.Calls.{Answer, close, done, has_stream, refusal, refusal_at, write}
 use Rattle.st_end.specs.Reading.{read}
 use Rattle.st_world_parts.specs.Sides.{Client, Server}
-use Rattle.st_world_parts.specs.State.{World, end_at, ledger_at, with_end}
-use Rattle.st_world_parts.specs.Ledgers.{Ledger, cleanly_closed, written}
+use Rattle.st_world_parts.specs.State.{World, end_at, log_at, with_end}
+use Rattle.st_world_parts.specs.StreamLogs.{StreamLog, cleanly_closed, written}
 use Rattle.st_world_parts.specs.Events.{Call, Gave, Read, Write}
 use Rattle.st_world_parts.specs.Ends.{Calls, read_at}
 use Rattle.st_world_quiet.specs.Worlds.{Met}
@@ -46,14 +46,14 @@ none_open (Some x) f = absurd (let clash : ◌≡◌ {A = Bool} true false = f i
 refused : (e : EndState) (k : ℕ) (of_sender : Option OutboxError) (s : Sending) → has_stream e k ≡ false → done e (refusal e k of_sender) s ≡ (Err NoStream, e)
 refused e k of_sender s none = let P : Option Outgoing → Type 0 = λ o. done e (refusal_at e o of_sender) s ≡ (Err NoStream, e) in subst P (sym (none_open (outgoing_at e.sending k) none)) refl
 
-uncalled : (w : World) (k : ℕ) (r : Answer × EndState) (x : Ledger) → r ≡ (Err NoStream, end_at w Client) → Calls w Client k r x (Call (Err NoStream)) w
+uncalled : (w : World) (k : ℕ) (r : Answer × EndState) (x : StreamLog) → r ≡ (Err NoStream, end_at w Client) → Calls w Client k r x (Call (Err NoStream)) w
 uncalled w k r x is = subst (λ q. Calls w Client k q x (Call (Err NoStream)) w) (sym is) (refl, refl)
 
-pub unwritten : (xs : List ℕ) (w : World) (k : ℕ) → has_stream (end_at w Client) k ≡ false → Met w (writes xs k (ledger_at w Client k)) w
+pub unwritten : (xs : List ℕ) (w : World) (k : ℕ) → has_stream (end_at w Client) k ≡ false → Met w (writes xs k (log_at w Client k)) w
 unwritten xs w k none = by (nat_eq (length l.written + length (fits xs l)) (length xs))
   where
-    l : Ledger
-    l = ledger_at w Client k
+    l : StreamLog
+    l = log_at w Client k
 
     e : EndState
     e = end_at w Client

@@ -69,7 +69,7 @@ to_its_end : {X : Type 0} (input : ℕ → List ℕ) (money : ℕ → ℕ) (coun
     → Ends input money count nodes most sends r w v → IsPlayed input money count nodes sends w v
 to_its_end input money count nodes most sends (Ok x) w v free short told calm e = e.played
 to_its_end input money count nodes most sends (Err NoMemory) w v free short told calm e = absurd (let clash : ◌≡◌ {A = Bool} true false = told in cc)
-to_its_end input money count nodes most sends (Err Refused) w v free short told calm e = absurd (let noted : v.refused ≡ true = e.stops.why in let clash : ◌≡◌ {A = Bool} true false = sym noted ∙ calm in cc)
+to_its_end input money count nodes most sends (Err Refused) w v free short told calm e = absurd (let with_refusal : v.refused ≡ true = e.stops.why in let clash : ◌≡◌ {A = Bool} true false = sym with_refusal ∙ calm in cc)
 to_its_end input money count nodes most sends (Err NoStream) w v free short told calm e = absurd (free e.stops.why)
 to_its_end input money count nodes most sends (Err Endless) w v free short told calm e = absurd (short e.stops.why)
 

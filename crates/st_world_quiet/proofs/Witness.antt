@@ -43,10 +43,10 @@ use Rattle.st_end.specs.State.{EndState, new_end}
 use Rattle.st_end.specs.Calls.{open_stream}
 use Rattle.st_end.specs.Sending.{Goes, flight_for, open_flight, prepare_for, with_condition}
 use Rattle.st_world_parts.specs.Sides.{Client, Server, Side}
-use Rattle.st_world_parts.specs.State.{AtEnd, AtHop, Given, Node, Place, Put, World, end_at, far, first_link, lane_at, ledger_at, near, nth, with_end, with_put}
-use Rattle.st_world_parts.specs.Ledgers.{Ledger}
+use Rattle.st_world_parts.specs.State.{AtEnd, AtHop, SentAnswer, Node, Place, SentPrepare, World, end_at, far, first_link, direction_at, log_at, near, nth, with_end, with_prepare}
+use Rattle.st_world_parts.specs.StreamLogs.{StreamLog}
 use Rattle.st_world_parts.specs.Events.{Abort, AnswerArrives, Arrive, Close, Crash, Event, Fault, IsEvent, Offer, OpenStream, Opened, Read, ReceiveMax, Refused, Send, Sent, Told, Write}
-use Rattle.st_world_parts.specs.Ends.{BackAtEnd, flight_of, put_by}
+use Rattle.st_world_parts.specs.Ends.{BackAtEnd, flight_of, prepare_of_flight}
 use Rattle.st_world_parts.specs.Hops.{ArrivesAtHop, BackAtHop, BackAtTicket, Comes}
 use Rattle.st_world.specs.Steps.{AnswerBack, Arrives, ArrivesAt, Back, BackAt, Step}
 use Rattle.st_world.specs.Runs.{Chain, is_chain, new_node, opening}
@@ -96,56 +96,56 @@ across c w i n bytes now lawful r here t outgoing text e =
     let apart = x.1 in
     omega (arith, two, low, apart)
 
-comes_may : (w : World) (link which : ℕ) (p : Put) (i : ℕ) (n : Node) (a : Arrival) (h : Hop) → ((t : Open) (outgoing : ℕ) (text : List ℕ) → a ≡ Forwards t outgoing text → outgoing ≡ 1) → (told : Told) × (v : World) × Comes w link Client which p i n a h told v
+comes_may : (w : World) (link which : ℕ) (p : SentPrepare) (i : ℕ) (n : Node) (a : Arrival) (h : Hop) → ((t : Open) (outgoing : ℕ) (text : List ℕ) → a ≡ Forwards t outgoing text → outgoing ≡ 1) → (told : Told) × (v : World) × Comes w link Client which p i n a h told v
 comes_may w link which p i n (Answers bytes) h one = (_, _, (refl, refl))
 comes_may w link which p i n (Forwards t outgoing bytes) h one = (_, _, (one t outgoing bytes refl, refl, refl))
 
 module _ (c : Chain) (w : World) (lawful : is_chain c ≡ true) (r : IsReachedBy c w) (link which : ℕ) (now : ℤ) where
-  hop_may : (p : Put) (i : ℕ) (o : Option Node) → slice_get w.nodes i ≡ o → (told : Told) × (v : World) × ArrivesAtHop w link Client which p now i o told v
+  hop_may : (p : SentPrepare) (i : ℕ) (o : Option Node) → slice_get w.nodes i ≡ o → (told : Told) × (v : World) × ArrivesAtHop w link Client which p now i o told v
   hop_may p i None here = (_, _, (refl, refl))
   hop_may p i (Some n) here = let a = arrived n.state 0 p.bytes now in comes_may w link which p i n a.0 a.1 (across c w i n p.bytes now lawful r here)
 
-  place_may : (p : Put) (place : Place) → (told : Told) × (v : World) × ArrivesAt w link Client which now p place told v
+  place_may : (p : SentPrepare) (place : Place) → (told : Told) × (v : World) × ArrivesAt w link Client which now p place told v
   place_may p (AtEnd side) = (_, _, (refl, refl))
   place_may p (AtHop i) = hop_may p i (slice_get w.nodes i) refl
 
-  put_may : (o : Option Put) → (told : Told) × (v : World) × Arrives w link Client which now o told v
+  put_may : (o : Option SentPrepare) → (told : Told) × (v : World) × Arrives w link Client which now o told v
   put_may None = (_, _, (refl, refl))
   put_may (Some p) = place_may p (far w link Client)
 
 -- ---- an answer that comes
 
 module _ (w : World) (link j : ℕ) (now : ℤ) where
-  ended_may : (p : Put) (outcome : Option (List ℕ)) (side : Side) (o : Option Flight) → (told : Told) × (v : World) × BackAtEnd w link Client j p outcome side o told v
+  ended_may : (p : SentPrepare) (outcome : Option (List ℕ)) (side : Side) (o : Option Flight) → (told : Told) × (v : World) × BackAtEnd w link Client j p outcome side o told v
   ended_may p outcome side None = (_, _, (refl, refl))
   ended_may p outcome side (Some flown) = (_, _, (refl, refl))
 
-  ticket_may : (p : Put) (outcome : Option (List ℕ)) (i : ℕ) (n : Node) (o : Option Open) → (told : Told) × (v : World) × BackAtTicket w link Client j p outcome now i n o told v
+  ticket_may : (p : SentPrepare) (outcome : Option (List ℕ)) (i : ℕ) (n : Node) (o : Option Open) → (told : Told) × (v : World) × BackAtTicket w link Client j p outcome now i n o told v
   ticket_may p outcome i n None = (_, _, (refl, refl))
   ticket_may p outcome i n (Some t) = (_, _, (refl, refl))
 
-  node_may : (p : Put) (outcome : Option (List ℕ)) (i : ℕ) (o : Option Node) → (told : Told) × (v : World) × BackAtHop w link Client j p outcome now i o told v
+  node_may : (p : SentPrepare) (outcome : Option (List ℕ)) (i : ℕ) (o : Option Node) → (told : Told) × (v : World) × BackAtHop w link Client j p outcome now i o told v
   node_may p outcome i None = (_, _, (refl, refl))
   node_may p outcome i (Some n) = ticket_may p outcome i n (ticket_at n.state.tickets p.name)
 
-  back_may : (p : Put) (outcome : Option (List ℕ)) (place : Place) → (told : Told) × (v : World) × BackAt w link Client j now p outcome place told v
+  back_may : (p : SentPrepare) (outcome : Option (List ℕ)) (place : Place) → (told : Told) × (v : World) × BackAt w link Client j now p outcome place told v
   back_may p outcome (AtEnd side) = ended_may p outcome side (open_flight (end_at w side) (flight_of p))
   back_may p outcome (AtHop i) = node_may p outcome i (slice_get w.nodes i)
 
-  outcome_may : (outcome : Option (List ℕ)) (o : Option Put) → (told : Told) × (v : World) × Back w link Client j now outcome o told v
+  outcome_may : (outcome : Option (List ℕ)) (o : Option SentPrepare) → (told : Told) × (v : World) × Back w link Client j now outcome o told v
   outcome_may outcome None = (_, _, (refl, refl))
   outcome_may outcome (Some p) = back_may p outcome (near w link Client)
 
-  given_may : (o : Option Given) → (told : Told) × (v : World) × AnswerBack w link Client j now o told v
+  given_may : (o : Option SentAnswer) → (told : Told) × (v : World) × AnswerBack w link Client j now o told v
   given_may None = (_, _, (refl, refl))
-  given_may (Some g) = outcome_may (Some g.bytes) (nth (lane_at w link Client).puts g.which)
+  given_may (Some g) = outcome_may (Some g.bytes) (nth (direction_at w link Client).prepares g.which)
 
 -- ---- any of these, and a list of them
 
 event_may : (c : Chain) (w : World) → is_chain c ≡ true → IsReachedBy c w → (event : Event) → MayCome event → Follows w event
-event_may c w lawful r (Arrive link Client which now) may = put_may c w lawful r link which now (nth (lane_at w link Client).puts which)
+event_may c w lawful r (Arrive link Client which now) may = put_may c w lawful r link which now (nth (direction_at w link Client).prepares which)
 event_may c w lawful r (Arrive link Server which now) may = absurd (let clash : ◌≡◌ {A = Side} Server Client = may.0 in cc)
-event_may c w lawful r (AnswerArrives link Client which now) may = given_may w link which now (nth (lane_at w link Client).given which)
+event_may c w lawful r (AnswerArrives link Client which now) may = given_may w link which now (nth (direction_at w link Client).given which)
 event_may c w lawful r (AnswerArrives link Server which now) may = absurd (let clash : ◌≡◌ {A = Side} Server Client = may.0 in cc)
 event_may c w lawful r (Write side k xs) may = (_, _, (refl, refl))
 event_may c w lawful r (Read side k limit) may = read_may w side k limit
@@ -205,14 +205,14 @@ close_may : (b : Bool) (k : ℕ) → AllByRecursion MayCome (close_if b k)
 close_may true k = (tt, tt)
 close_may false k = tt
 
-write_may : (xs : List ℕ) (k : ℕ) (l : Ledger) → AllByRecursion MayCome (writes xs k l)
+write_may : (xs : List ℕ) (k : ℕ) (l : StreamLog) → AllByRecursion MayCome (writes xs k l)
 write_may xs k l = (tt, close_may _ k)
 
 writes_may : (c : Chain) (input : ℕ → List ℕ) (first count : ℕ) (w : World) → is_chain c ≡ true → IsReachedBy c w → (v : World) × Writes input first count w v
 writes_may c input first zero w lawful r = (w, refl)
 writes_may c input first (suc m) w lawful r =
-    let events = writes (input first) first (ledger_at w Client first) in
-    let one = events_may c events w lawful r (write_may (input first) first (ledger_at w Client first)) in
+    let events = writes (input first) first (log_at w Client first) in
+    let one = events_may c events w lawful r (write_may (input first) first (log_at w Client first)) in
     let rest = writes_may c input (first + 1) m one.0 lawful (reached_met c events w one.0 r one.1) in
     (rest.0, (one.0, one.1, rest.1))
 
@@ -361,8 +361,8 @@ module _ (c : Chain) (limit : ℕ) (lawful : is_chain c ≡ true) (address : is_
   offered_reached : IsReachedBy c offered.0
   offered_reached = reached_met c (Offer Client 1 (money 1) ∷ []) opened offered.0 opened_reached offered.1
 
-  begun : (v : World) × Met offered.0 (writes (input 1) 1 (ledger_at offered.0 Client 1)) v
-  begun = events_may c (writes (input 1) 1 (ledger_at offered.0 Client 1)) offered.0 lawful offered_reached (write_may (input 1) 1 (ledger_at offered.0 Client 1))
+  begun : (v : World) × Met offered.0 (writes (input 1) 1 (log_at offered.0 Client 1)) v
+  begun = events_may c (writes (input 1) 1 (log_at offered.0 Client 1)) offered.0 lawful offered_reached (write_may (input 1) 1 (log_at offered.0 Client 1))
 
   begins : Begins input money allowed.0 begun.0
   begins = record { stream = 1; opened = opened; offered = offered.0; opens = opens; offers = offered.1; writes_first = begun.1 }
@@ -422,7 +422,7 @@ module _ (c : Chain) (limit : ℕ) (lawful : is_chain c ≡ true) (address : is_
 
   -- its round
   abbrev sent : World
-  sent = with_put (with_end begun.0 Client went.2) (first_link begun.0 Client) Client (put_by went.0 went.1)
+  sent = with_prepare (with_end begun.0 Client went.2) (first_link begun.0 Client) Client (prepare_of_flight went.0 went.1)
 
   sends : Step begun.0 (Send Client (replicate 12 0) (pos 0)) Sent sent
   sends = inr (went.0, went.1, went.2, subst (λ (z : EndState). Goes z (replicate 12 0) (pos 0) went.0 went.1 went.2) (sym rests.0.client) went.3, refl, refl)
@@ -459,7 +459,7 @@ module _ (c : Chain) (limit : ℕ) (lawful : is_chain c ≡ true) (address : is_
   run : QuietRun c input money 1 limit 1 wrote.0
   run = record { allowed = allowed.0; begun = begun.0; allows_each = allowed.1; begins_each = begins_one; rounds = (wrote.0, round, refl) }
 
-  crossed_links : (link : ℕ) → link ≤ length wrote.0.nodes → HasPassed 1 (lane_at wrote.0 link Client)
+  crossed_links : (link : ℕ) → link ≤ length wrote.0.nodes → HasPassed 1 (direction_at wrote.0 link Client)
   crossed_links = (run_crosses c input money 1 limit 1 wrote.0 goes_on run).2.rests.lanes
 
   -- nothing is left: what was sent was fulfilled
@@ -475,5 +475,5 @@ module _ (c : Chain) (limit : ℕ) (lawful : is_chain c ≡ true) (address : is_
       by : (a b n : ℕ) → 1 + a ≤ b → b ≤ n → n ≡ 1 → a ≡ 0
       by a b n more most one = omega (arith, more, most, one)
 
-  pub may_cross : (v : World) × QuietRun c input money 1 limit 1 v × ((link : ℕ) → link ≤ length v.nodes → HasPassed 1 (lane_at v link Client)) × (work_left (lengths input) (end_at v Client).sending ≡ 0)
+  pub may_cross : (v : World) × QuietRun c input money 1 limit 1 v × ((link : ℕ) → link ≤ length v.nodes → HasPassed 1 (direction_at v link Client)) × (work_left (lengths input) (end_at v Client).sending ≡ 0)
   may_cross = (wrote.0, run, crossed_links, none_left)

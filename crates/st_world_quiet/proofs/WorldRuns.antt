@@ -13,11 +13,11 @@ use Rattle.st_end.specs.State.{EndState, new_end}
 use Rattle.st_end.specs.Calls.{offer, open_stream, set_receive_max, connection_refusal, opened_unless, opening_as, own_number, refusal}
 use Rattle.st_end.specs.Sending.{Goes, GoesNone}
 use Rattle.st_world_parts.specs.Sides.{Client, Server, at, IsPrefixOf}
-use Rattle.st_world_parts.specs.State.{World, end_at, lane_at, no_lanes, ledger_at}
+use Rattle.st_world_parts.specs.State.{World, end_at, direction_at, empty_link, log_at}
 use Rattle.st_world_parts.specs.Events.{Opened, Send, Sent, Silent, Told, Offer, OpenStream}
 use Rattle.st_world.specs.Steps.{Step}
 use Rattle.st_world.specs.Runs.{Chain, Table, new_node, opening}
-use Rattle.st_world.proofs.Lanes.{no_lane}
+use Rattle.st_world.proofs.Lanes.{empty_direction}
 use Rattle.st_world_quiet.specs.Quiet.{IsQuiet}
 use Rattle.st_world_quiet.specs.Left.{all_money_left, bound, money_left, work_left}
 use Rattle.st_world_quiet.specs.Rounds.{IsRefilled}
@@ -38,7 +38,7 @@ use Rattle.st_world_quiet.proofs.Trips.{goes_sends, receiving_still, trips_excha
 use Rattle.st_world_quiet.proofs.Turns.{turn_spends, turn_trip, turns_trips}
 use Rattle.std.specs.Ordering.{nat_cmp}
 use Rattle.std.specs.FinMap as fmap
-use Rattle.st_world_parts.specs.Ledgers.{ledger_or}
+use Rattle.st_world_parts.specs.StreamLogs.{ledger_or}
 use Rattle.std.proofs.lemmas.Bool.Decides.{nat_tests}
 use Rattle.st_reassembly.specs.Held.{Held}
 use Rattle.st_reassembly.specs.Run.{run}
@@ -243,7 +243,7 @@ begins_rest c input money w v e hops f n r rest none unread x =
     let acked = acks_offered o.1 k (money k) none_open k ∙ sym (unread k) in
     let write_is : IsAtRest v (begun input money (Ok k, o.1)) hops f n = write_rest c (input k) k x.offered v (offer o.1 k (money k)).1 hops f n offered_reached offer_rest acked x.writes_first in (
       subst (λ z. IsAtRest v (begun input money (open_stream z)) hops f n) rest.client (subst (λ z. IsAtRest v (begun input money (z, o.1)) hops f n) number write_is),
-      reached_met c (writes (input k) k (ledger_at x.offered Client k)) x.offered v offered_reached x.writes_first,
+      reached_met c (writes (input k) k (log_at x.offered Client k)) x.offered v offered_reached x.writes_first,
       ap (λ z. (open_stream z).0) (sym rest.client) ∙ sym number,
     )
 
@@ -296,8 +296,8 @@ opening_rests c = record {
   client = refl;
   server = refl;
   hops_are = refl;
-  links = long_replicate (length c.hops + 1) no_lanes ∙ ap (λ m. m + 1) (sym (long_map c.hops));
-  lanes = λ j l. (let none = no_lane (length c.hops + 1) j Client in record { puts = ap length none.0; given = ap length none.1 });
+  links = long_replicate (length c.hops + 1) empty_link ∙ ap (λ m. m + 1) (sym (long_map c.hops));
+  lanes = λ j l. (let none = empty_direction (length c.hops + 1) j Client in record { prepares = ap length none.0; given = ap length none.1 });
 }
 
 -- ---- the money that is offered at the opening
@@ -474,8 +474,8 @@ module _ (c : Chain) (input : ℕ → List ℕ) (money : ℕ → ℕ) (count lim
       counts : (m last first most : ℕ) → m + last ≤ first → first + 1 ≤ most → m + 1 ≤ most
       counts m last first most l b = omega arith
 
-  pub run_puts : length (lane_at v 0 Client).puts ≡ m
-  run_puts = (crossed.rests.lanes 0 (omega arith)).puts
+  pub run_puts : length (direction_at v 0 Client).prepares ≡ m
+  run_puts = (crossed.rests.lanes 0 (omega arith)).prepares
 
   -- a stream that is open at the opening, and only that, is open at the end, with its money offered
   pub run_offers : (k : ℕ) → offer_of (outgoing_at (end_at v Client).sending k) ≡ offer_of (outgoing_at (opening_client c input money count).sending k)
@@ -516,18 +516,18 @@ module _ (c : Chain) (input : ℕ → List ℕ) (money : ℕ → ℕ) (count lim
       by [] is = sym (append-nil xs) ∙ is
       by (b ∷ bs) is = absurd (let all : length (xs ++ b ∷ bs) ≡ length ys = ap length is in let sum = length-append xs (b ∷ bs) in omega (arith, all, sum, long))
 
-  pub run_reads_whole : (k : ℕ) (x : Outgoing) → GoesNone (end_at v Client) → outgoing_at (end_at v Client).sending k ≡ Some x → ((ledger_at v Client k).read ≡ input k) × ((ledger_at v Client k).written ≡ input k)
+  pub run_reads_whole : (k : ℕ) (x : Outgoing) → GoesNone (end_at v Client) → outgoing_at (end_at v Client).sending k ≡ Some x → ((log_at v Client k).read ≡ input k) × ((log_at v Client k).written ≡ input k)
   run_reads_whole k x none at =
       let quiet = turns_quiet input limit m first far_end crossed.client crossed.server may.input_fits stands turns in
       let done = nothing_left (lengths input) crossed.client quiet crossed.unclosed (subst GoesNone crossed.rests.client none) in
       let here : outgoing_at crossed.client.sending k ≡ Some x = subst (λ (z : EndState). outgoing_at z.sending k ≡ Some x) crossed.rests.client at in
       let all = all_done (lengths input) crossed.client.sending k x quiet done here in
       let told = ledgered c v crossed.client crossed.others crossed.server m k crossed.is_reached crossed.rests in
-      let written = subst (OutFine (ledger_at v Client k).written) here told.written in
+      let written = subst (OutFine (log_at v Client k).written) here told.written in
       let read = (run_delivers k x none at).0 in
-      let count : length (ledger_at v Client k).read ≡ length (input k) = told.read ∙ ap (λ (z : EndState). (incoming_at z.receiving k).held.read) (sym crossed.rests.server) ∙ read in
-      let whole = same_list (ledger_at v Client k).written (input k) (crossed.copies k) (sym written.0 ∙ all.all_bytes) in
-      (same_list (ledger_at v Client k).read (ledger_at v Client k).written (ledger_prefix c v k crossed.is_reached) (count ∙ sym all.all_bytes ∙ written.0) ∙ whole, whole)
+      let count : length (log_at v Client k).read ≡ length (input k) = told.read ∙ ap (λ (z : EndState). (incoming_at z.receiving k).held.read) (sym crossed.rests.server) ∙ read in
+      let whole = same_list (log_at v Client k).written (input k) (crossed.copies k) (sym written.0 ∙ all.all_bytes) in
+      (same_list (log_at v Client k).read (log_at v Client k).written (ledger_prefix c v k crossed.is_reached) (count ∙ sym all.all_bytes ∙ written.0) ∙ whole, whole)
 
   pub run_ends : (k most : ℕ) (x : Outgoing) → GoesNone (end_at v Client) → outgoing_at (end_at v Client).sending k ≡ Some x → got most (incoming_at (end_at v Server).receiving k).held ≡ End
   run_ends k most x none at =

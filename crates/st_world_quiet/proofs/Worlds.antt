@@ -14,10 +14,10 @@ use Rattle.st_end.specs.Sending.{Goes, open_flight}
 use Rattle.st_end.specs.Receiving.{received}
 use Rattle.st_end.specs.Answers.{after_outcome, ended, ended_with, pays}
 use Rattle.st_world_parts.specs.Sides.{Both, Client, Server, at}
-use Rattle.st_world_parts.specs.State.{AtEnd, AtHop, Given, Lane, Node, Party, Put, World, end_at, far, lane_at, nth, with_end, with_entry, with_given, with_hop_entry, with_lane, with_node, with_put}
+use Rattle.st_world_parts.specs.State.{AtEnd, AtHop, SentAnswer, Direction, Node, Party, SentPrepare, World, end_at, far, direction_at, nth, with_end, with_entry, with_answer, with_hop_entry, with_lane, with_node, with_prepare}
 use Rattle.st_world_parts.specs.Events.{AnswerArrives, Arrive, Event, Send, Sent, Silent, Told}
-use Rattle.st_world_parts.specs.Ends.{BackAtEnd, end_entry, flight_of, given_by, put_by, taken_if, took}
-use Rattle.st_world_parts.specs.Hops.{ArrivesAtHop, BackAtHop, BackAtTicket, Comes, put_on, settled_entry}
+use Rattle.st_world_parts.specs.Ends.{BackAtEnd, end_entry, flight_of, answer_to, prepare_of_flight, taken_if, took}
+use Rattle.st_world_parts.specs.Hops.{ArrivesAtHop, BackAtHop, BackAtTicket, Comes, prepare_of_ticket, settled_entry}
 use Rattle.st_world.specs.Steps.{AnswerBack, Arrives, ArrivesAt, Back, Step}
 use Rattle.st_world.proofs.Lanes.{lane_here, lane_there}
 use Rattle.st_world_quiet.specs.Crossing.{Crossed, back_over, crossed, over_one, taken_at_end}
@@ -86,12 +86,12 @@ pub record IsOn (i : ℕ) (w : World) (hops : List Hop) (f : EndState) (p g : �
   pub nodes : map state_of (drop i w.nodes) ≡ hops
   pub within : i + length hops ≡ length w.nodes
   pub links : length w.links ≡ length w.nodes + 1
-  pub put : Put
-  pub has_put : slice_get (lane_at w i Client).puts (p i) ≡ Some put
+  pub put : SentPrepare
+  pub has_put : slice_get (direction_at w i Client).prepares (p i) ≡ Some put
   pub bytes : put.bytes ≡ text
-  pub puts : length (lane_at w i Client).puts ≡ suc (p i)
-  pub given : length (lane_at w i Client).given ≡ g i
-  pub later : (j : ℕ) → i < j → j ≤ length w.nodes → HasGone (p j) (g j) (lane_at w j Client)
+  pub prepares : length (direction_at w i Client).prepares ≡ suc (p i)
+  pub given : length (direction_at w i Client).given ≡ g i
+  pub later : (j : ℕ) → i < j → j ≤ length w.nodes → HasGone (p j) (g j) (direction_at w j Client)
 
 -- its answer was given on that link
 pub record IsBack (i : ℕ) (w v : World) (p g : ℕ → ℕ) (c : Crossed) : Type 0 where
@@ -102,14 +102,14 @@ pub record IsBack (i : ℕ) (w v : World) (p g : ℕ → ℕ) (c : Crossed) : Ty
   pub count : length v.nodes ≡ length w.nodes
   pub links : length v.links ≡ length w.links
   pub before : (j : ℕ) → j < i → slice_get v.nodes j ≡ slice_get w.nodes j
-  pub earlier : (j : ℕ) → j < i → lane_at v j Client ≡ lane_at w j Client
-  pub puts : (lane_at v i Client).puts ≡ (lane_at w i Client).puts
-  pub answer : Given
-  pub has_answer : slice_get (lane_at v i Client).given (g i) ≡ Some answer
+  pub earlier : (j : ℕ) → j < i → direction_at v j Client ≡ direction_at w j Client
+  pub prepares : (direction_at v i Client).prepares ≡ (direction_at w i Client).prepares
+  pub answer : SentAnswer
+  pub has_answer : slice_get (direction_at v i Client).given (g i) ≡ Some answer
   pub which : answer.which ≡ suc (p i)
   pub bytes : answer.bytes ≡ c.answer
-  pub given : length (lane_at v i Client).given ≡ suc (g i)
-  pub later : (j : ℕ) → i < j → j ≤ length w.nodes → HasGone (suc (p j)) (suc (g j)) (lane_at v j Client)
+  pub given : length (direction_at v i Client).given ≡ suc (g i)
+  pub later : (j : ℕ) → i < j → j ≤ length w.nodes → HasGone (suc (p j)) (suc (g j)) (direction_at v j Client)
 
 -- lists of events one after the other
 pub met_both : (events more : List Event) (w v : World) → Met w (events ++ more) v → (mid : World) × Met w events mid × Met mid more v
@@ -136,10 +136,10 @@ at_server i w v f p g text now told on step =
     let r = received (end_at w Server) on.put.bytes now in
     let same : r ≡ received f text now = ap (λ e. received e on.put.bytes now) on.server ∙ ap (λ b. received f b now) on.bytes in
     let middle = with_entry (with_end w Server r.1) Server (end_entry r.0) in
-    let lane : Lane = record { puts = (lane_at w i Client).puts; given = (lane_at w i Client).given ++ given_by (suc (p i)) r.0.bytes ∷ [] } in
+    let lane : Direction = record { prepares = (direction_at w i Client).prepares; given = (direction_at w i Client).given ++ answer_to (suc (p i)) r.0.bytes ∷ [] } in
     let after : v ≡ with_lane middle i Client lane = here.1 in
-    let lane_is : lane_at v i Client ≡ lane = ap (λ z. lane_at z i Client) after ∙ lane_here middle i Client lane (let l = on.within in let k = on.links in omega (arith, l, k)) in
-    let lanes : (j : ℕ) → j ≢ i → lane_at v j Client ≡ lane_at w j Client = (λ j apart. ap (λ z. lane_at z j Client) after ∙ lane_there middle i Client lane j Client (λ e. apart e.0)) in
+    let lane_is : direction_at v i Client ≡ lane = ap (λ z. direction_at z i Client) after ∙ lane_here middle i Client lane (let l = on.within in let k = on.links in omega (arith, l, k)) in
+    let lanes : (j : ℕ) → j ≢ i → direction_at v j Client ≡ direction_at w j Client = (λ j apart. ap (λ z. direction_at z j Client) after ∙ lane_there middle i Client lane j Client (λ e. apart e.0)) in
     record {
       client = ap (λ z. end_at z Client) after;
       ledgers = ap (λ (z : World). z.ledgers) after;
@@ -149,12 +149,12 @@ at_server i w v f p g text now told on step =
       links = ap (λ (z : World). length z.links) after ∙ length-set w.links i _;
       before = λ j l. ap (λ (z : World). slice_get z.nodes j) after;
       earlier = λ j l. lanes j (omega (arith, l));
-      puts = ap (λ (x : Lane). x.puts) lane_is;
-      answer = given_by (suc (p i)) r.0.bytes;
-      has_answer = ap (λ (x : Lane). slice_get x.given (g i)) lane_is ∙ last_at (lane_at w i Client).given (given_by (suc (p i)) r.0.bytes) (g i) on.given;
+      prepares = ap (λ (x : Direction). x.prepares) lane_is;
+      answer = answer_to (suc (p i)) r.0.bytes;
+      has_answer = ap (λ (x : Direction). slice_get x.given (g i)) lane_is ∙ last_at (direction_at w i Client).given (answer_to (suc (p i)) r.0.bytes) (g i) on.given;
       which = refl;
       bytes = ap (λ z. z.0.bytes) same;
-      given = ap (λ (x : Lane). length x.given) lane_is ∙ length_push (lane_at w i Client).given (given_by (suc (p i)) r.0.bytes) ∙ ap suc on.given;
+      given = ap (λ (x : Direction). length x.given) lane_is ∙ length_push (direction_at w i Client).given (answer_to (suc (p i)) r.0.bytes) ∙ ap suc on.given;
       later = λ j l m. absurd (let k = on.within in omega (arith, k, l, m));
     }
 
@@ -169,8 +169,8 @@ pub record WentOn (i : ℕ) (w v : World) (after : Hop) (others : List Hop) (f :
   pub client : end_at v Client ≡ end_at w Client
   pub ledgers : v.ledgers ≡ w.ledgers
   pub links : length v.links ≡ length w.links
-  pub earlier : (j : ℕ) → j < suc i → lane_at v j Client ≡ lane_at w j Client
-  pub put : slice_get (lane_at v (suc i) Client).puts (p (suc i)) ≡ Some (put_on t onward (suc (p i)))
+  pub earlier : (j : ℕ) → j < suc i → direction_at v j Client ≡ direction_at w j Client
+  pub put : slice_get (direction_at v (suc i) Client).prepares (p (suc i)) ≡ Some (prepare_of_ticket t onward (suc (p i)))
   pub on : IsOn (suc i) v others f p g onward
 
 pub at_hop : (i : ℕ) (w v : World) (h after : Hop) (others : List Hop) (f : EndState) (p g : ℕ → ℕ) (text onward : List ℕ) (t : Open) (account : ℕ) (now : ℤ) (told : Told) → (on : IsOn i w (h ∷ others) f p g text) → arrived h 0 text now ≡ (Forwards t account onward, after)
@@ -184,19 +184,19 @@ at_hop i w v h after others f p g text onward t account now told on forwards ste
     let at_node : ArrivesAtHop w i Client (suc (p i)) on.put now i (Some old.node) told v = subst (λ o. ArrivesAtHop w i Client (suc (p i)) on.put now i o told v) old.at here in
     let same : arrived old.node.state 0 on.put.bytes now ≡ (Forwards t account onward, after) = ap (λ s. arrived s 0 on.put.bytes now) old.is ∙ ap (λ b. arrived h 0 b now) on.bytes ∙ forwards in
     let gone : Comes w i Client (suc (p i)) on.put i old.node (Forwards t account onward) after told v = subst (λ r. Comes w i Client (suc (p i)) on.put i old.node r.0 r.1 told v) same at_node in
-    let node : Node = record { state = after; bag = old.node.bag } in
+    let node : Node = record { state = after; answered = old.node.answered } in
     let middle = with_node w i node in
     let next : i + 1 ≡ suc i = omega arith in
-    let lane : Lane = record { puts = (lane_at w (suc i) Client).puts ++ put_on t onward (suc (p i)) ∷ []; given = (lane_at w (suc i) Client).given } in
-    let after_is : v ≡ with_lane middle (suc i) Client lane = subst (λ l. v ≡ with_put middle l Client (put_on t onward (suc (p i)))) next gone.2 in
+    let lane : Direction = record { prepares = (direction_at w (suc i) Client).prepares ++ prepare_of_ticket t onward (suc (p i)) ∷ []; given = (direction_at w (suc i) Client).given } in
+    let after_is : v ≡ with_lane middle (suc i) Client lane = subst (λ l. v ≡ with_prepare middle l Client (prepare_of_ticket t onward (suc (p i)))) next gone.2 in
     let passed = on.later (suc i) (omega arith) (omega (arith, inside)) in
-    let lane_is : lane_at v (suc i) Client ≡ lane = ap (λ z. lane_at z (suc i) Client) after_is ∙ lane_here middle (suc i) Client lane (let k = on.links in omega (arith, k, inside)) in
-    let lanes : (j : ℕ) → j ≢ suc i → lane_at v j Client ≡ lane_at w j Client = (λ j apart. ap (λ z. lane_at z j Client) after_is ∙ lane_there middle (suc i) Client lane j Client (λ e. apart e.0)) in
-    let puts_long : length (lane_at w (suc i) Client).puts ≡ p (suc i) = passed.puts in
+    let lane_is : direction_at v (suc i) Client ≡ lane = ap (λ z. direction_at z (suc i) Client) after_is ∙ lane_here middle (suc i) Client lane (let k = on.links in omega (arith, k, inside)) in
+    let lanes : (j : ℕ) → j ≢ suc i → direction_at v j Client ≡ direction_at w j Client = (λ j apart. ap (λ z. direction_at z j Client) after_is ∙ lane_there middle (suc i) Client lane j Client (λ e. apart e.0)) in
+    let puts_long : length (direction_at w (suc i) Client).prepares ≡ p (suc i) = passed.prepares in
     let nodes_are : v.nodes ≡ set w.nodes i node = ap (λ (z : World). z.nodes) after_is in
     let many : length v.nodes ≡ length w.nodes = ap length nodes_are ∙ length-set w.nodes i node in
     let links_same : length v.links ≡ length w.links = ap (λ (z : World). length z.links) after_is ∙ length-set w.links (suc i) _ in
-    let has_put : slice_get (lane_at v (suc i) Client).puts (p (suc i)) ≡ Some (put_on t onward (suc (p i))) = ap (λ (x : Lane). slice_get x.puts (p (suc i))) lane_is ∙ last_at (lane_at w (suc i) Client).puts (put_on t onward (suc (p i))) (p (suc i)) puts_long in
+    let has_put : slice_get (direction_at v (suc i) Client).prepares (p (suc i)) ≡ Some (prepare_of_ticket t onward (suc (p i))) = ap (λ (x : Direction). slice_get x.prepares (p (suc i))) lane_is ∙ last_at (direction_at w (suc i) Client).prepares (prepare_of_ticket t onward (suc (p i))) (p (suc i)) puts_long in
     record {
       node = node;
       has_node = ap (λ ns. slice_get ns i) nodes_are ∙ get_set w.nodes i node old.node old.at;
@@ -213,11 +213,11 @@ at_hop i w v h after others f p g text onward t account now told on forwards ste
         nodes = ap (λ ns. map state_of (drop (suc i) ns)) nodes_are ∙ ap (map state_of) (drop_set w.nodes i node) ∙ old.rest;
         within = (let l = on.within in omega (arith, l, many));
         links = (let k = on.links in omega (arith, k, links_same, many));
-        put = put_on t onward (suc (p i));
+        put = prepare_of_ticket t onward (suc (p i));
         has_put = has_put;
         bytes = refl;
-        puts = ap (λ (x : Lane). length x.puts) lane_is ∙ length_push (lane_at w (suc i) Client).puts (put_on t onward (suc (p i))) ∙ ap suc puts_long;
-        given = ap (λ (x : Lane). length x.given) lane_is ∙ passed.given;
+        prepares = ap (λ (x : Direction). length x.prepares) lane_is ∙ length_push (direction_at w (suc i) Client).prepares (prepare_of_ticket t onward (suc (p i))) ∙ ap suc puts_long;
+        given = ap (λ (x : Direction). length x.given) lane_is ∙ passed.given;
         later = λ j l m. subst (HasGone (p j) (g j)) (sym (lanes j (omega (arith, l)))) (on.later j (omega (arith, l)) (omega (arith, m, many)));
       };
     }
@@ -228,29 +228,29 @@ pub record Takes (w v : World) (l : ℕ) : Type 0 where
   pub ledgers : v.ledgers ≡ w.ledgers
   pub nodes : v.nodes ≡ w.nodes
   pub links : length v.links ≡ length w.links
-  pub others : (j : ℕ) → j ≢ l → lane_at v j Client ≡ lane_at w j Client
-  pub puts : length (lane_at v l Client).puts ≡ length (lane_at w l Client).puts
-  pub given : length (lane_at v l Client).given ≡ length (lane_at w l Client).given
+  pub others : (j : ℕ) → j ≢ l → direction_at v j Client ≡ direction_at w j Client
+  pub prepares : length (direction_at v l Client).prepares ≡ length (direction_at w l Client).prepares
+  pub given : length (direction_at v l Client).given ≡ length (direction_at w l Client).given
 
 pub taken : (b : Bool) (w : World) (l n : ℕ) → l < length w.links → Takes w (taken_if b w l Client (suc n)) l
-taken false w l n inside = record { ends = refl; ledgers = refl; nodes = refl; links = refl; others = λ j apart. refl; puts = refl; given = refl }
+taken false w l n inside = record { ends = refl; ledgers = refl; nodes = refl; links = refl; others = λ j apart. refl; prepares = refl; given = refl }
 taken true w l n inside =
-    let lane : Lane = record { puts = (lane_at w l Client).puts; given = set (lane_at w l Client).given n (took (get_or (lane_at w l Client).given n (given_by 0 []))) } in
-    let is : lane_at (with_lane w l Client lane) l Client ≡ lane = lane_here w l Client lane inside in
+    let lane : Direction = record { prepares = (direction_at w l Client).prepares; given = set (direction_at w l Client).given n (took (get_or (direction_at w l Client).given n (answer_to 0 []))) } in
+    let is : direction_at (with_lane w l Client lane) l Client ≡ lane = lane_here w l Client lane inside in
     record {
       ends = refl;
       ledgers = refl;
       nodes = refl;
       links = length-set w.links l _;
       others = λ j apart. lane_there w l Client lane j Client (λ e. apart e.0);
-      puts = ap (λ (x : Lane). length x.puts) is;
-      given = ap (λ (x : Lane). length x.given) is ∙ length-set (lane_at w l Client).given n _;
+      prepares = ap (λ (x : Direction). length x.prepares) is;
+      given = ap (λ (x : Direction). length x.given) is ∙ length-set (direction_at w l Client).given n _;
     }
 
-passed_after : (i : ℕ) (p g : ℕ → ℕ) (v u m : World) (c : Crossed) → length (lane_at m (suc i) Client).puts ≡ length (lane_at u (suc i) Client).puts → length (lane_at m (suc i) Client).given ≡ length (lane_at u (suc i) Client).given → ((j : ℕ) → j ≢ suc i → lane_at m j Client ≡ lane_at u j Client)
-    → IsBack (suc i) v u p g c → length (lane_at v (suc i) Client).puts ≡ suc (p (suc i)) → (j : ℕ) → i < j → j ≤ length v.nodes → HasGone (suc (p j)) (suc (g j)) (lane_at m j Client)
-passed_after i p g v u m c puts given others back long j l k = elim (cases_eq j (suc i)) [
-  | inl e ↦ subst (λ z. HasGone (suc (p z)) (suc (g z)) (lane_at m z Client)) (sym e) (record { puts = puts ∙ ap length back.puts ∙ long; given = given ∙ back.given })
+passed_after : (i : ℕ) (p g : ℕ → ℕ) (v u m : World) (c : Crossed) → length (direction_at m (suc i) Client).prepares ≡ length (direction_at u (suc i) Client).prepares → length (direction_at m (suc i) Client).given ≡ length (direction_at u (suc i) Client).given → ((j : ℕ) → j ≢ suc i → direction_at m j Client ≡ direction_at u j Client)
+    → IsBack (suc i) v u p g c → length (direction_at v (suc i) Client).prepares ≡ suc (p (suc i)) → (j : ℕ) → i < j → j ≤ length v.nodes → HasGone (suc (p j)) (suc (g j)) (direction_at m j Client)
+passed_after i p g v u m c prepares given others back long j l k = elim (cases_eq j (suc i)) [
+  | inl e ↦ subst (λ z. HasGone (suc (p z)) (suc (g z)) (direction_at m z Client)) (sym e) (record { prepares = prepares ∙ ap length back.prepares ∙ long; given = given ∙ back.given })
   | inr apart ↦ subst (HasGone (suc (p j)) (suc (g j))) (sym (others j apart)) (back.later j (omega (arith, l, apart)) k)
 ]
 
@@ -259,13 +259,13 @@ back_at_hop : (i : ℕ) (w v u x : World) (after : Hop) (others : List Hop) (f :
 back_at_hop i w v u x after others f t p g text onward hops c now told on went ticket back step =
     let answer = back.answer in
     let found : AnswerBack u (suc i) Client (suc (g (suc i))) now (Some answer) told x = subst (λ o. AnswerBack u (suc i) Client (suc (g (suc i))) now o told x) back.has_answer step in
-    let put_is : nth (lane_at u (suc i) Client).puts answer.which ≡ Some (put_on t onward (suc (p i))) = ap (nth (lane_at u (suc i) Client).puts) back.which ∙ ap (λ ps. slice_get ps (p (suc i))) back.puts ∙ went.put in
-    let at_put : Back u (suc i) Client (suc (g (suc i))) now (Some answer.bytes) (Some (put_on t onward (suc (p i)))) told x = subst (λ o. Back u (suc i) Client (suc (g (suc i))) now (Some answer.bytes) o told x) put_is found in
+    let put_is : nth (direction_at u (suc i) Client).prepares answer.which ≡ Some (prepare_of_ticket t onward (suc (p i))) = ap (nth (direction_at u (suc i) Client).prepares) back.which ∙ ap (λ ps. slice_get ps (p (suc i))) back.prepares ∙ went.put in
+    let at_put : Back u (suc i) Client (suc (g (suc i))) now (Some answer.bytes) (Some (prepare_of_ticket t onward (suc (p i)))) told x = subst (λ o. Back u (suc i) Client (suc (g (suc i))) now (Some answer.bytes) o told x) put_is found in
     let node = went.node in
     let has_node : slice_get u.nodes i ≡ Some node = back.before i (omega arith) ∙ went.has_node in
-    let at_node : BackAtHop u (suc i) Client (suc (g (suc i))) (put_on t onward (suc (p i))) (Some answer.bytes) now i (Some node) told x = subst (λ o. BackAtHop u (suc i) Client (suc (g (suc i))) (put_on t onward (suc (p i))) (Some answer.bytes) now i o told x) has_node at_put in
+    let at_node : BackAtHop u (suc i) Client (suc (g (suc i))) (prepare_of_ticket t onward (suc (p i))) (Some answer.bytes) now i (Some node) told x = subst (λ o. BackAtHop u (suc i) Client (suc (g (suc i))) (prepare_of_ticket t onward (suc (p i))) (Some answer.bytes) now i o told x) has_node at_put in
     let ticket_is : ticket_at node.state.tickets t.number ≡ Some t = ap (λ (h : Hop). ticket_at h.tickets t.number) went.state_is ∙ ticket in
-    let settles : BackAtTicket u (suc i) Client (suc (g (suc i))) (put_on t onward (suc (p i))) (Some answer.bytes) now i node (Some t) told x = subst (λ o. BackAtTicket u (suc i) Client (suc (g (suc i))) (put_on t onward (suc (p i))) (Some answer.bytes) now i node o told x) ticket_is at_node in
+    let settles : BackAtTicket u (suc i) Client (suc (g (suc i))) (prepare_of_ticket t onward (suc (p i))) (Some answer.bytes) now i node (Some t) told x = subst (λ o. BackAtTicket u (suc i) Client (suc (g (suc i))) (prepare_of_ticket t onward (suc (p i))) (Some answer.bytes) now i node o told x) ticket_is at_node in
     let r = settled node.state t (Some answer.bytes) now in
     let booked = is_booked t (Some answer.bytes) now in
     let same : r ≡ settled after t (Some c.answer) now = ap (λ h. settled h t (Some answer.bytes) now) went.state_is ∙ ap (λ b. settled after t (Some b) now) back.bytes in
@@ -274,14 +274,14 @@ back_at_hop i w v u x after others f t p g text onward hops c now told on went t
     let inside : suc i < length u.links = (let a = back.links in let b = went.on.links in let l = went.on.within in omega (arith, a, b, l)) in
     let takes = taken booked entered (suc i) (g (suc i)) inside in
     let prev : suc i - 1 ≡ i = omega arith in
-    let here_is : lane_at middle i Client ≡ lane_at w i Client = takes.others i (omega arith) ∙ back.earlier i (omega arith) ∙ went.earlier i (omega arith) in
-    let lane : Lane = record { puts = (lane_at middle i Client).puts; given = (lane_at middle i Client).given ++ given_by (suc (p i)) r.0 ∷ [] } in
-    let after_is : x ≡ with_lane middle i Client lane = subst (λ l. x ≡ with_given middle l Client (given_by (suc (p i)) r.0)) prev settles.1 in
-    let lane_is : lane_at x i Client ≡ lane = ap (λ z. lane_at z i Client) after_is ∙ lane_here middle i Client lane (let k = takes.links in omega (arith, k, inside)) in
-    let lanes : (j : ℕ) → j ≢ i → lane_at x j Client ≡ lane_at middle j Client = (λ j apart. ap (λ z. lane_at z j Client) after_is ∙ lane_there middle i Client lane j Client (λ e. apart e.0)) in
-    let new : Node = record { state = r.1; bag = node.bag ++ settled_entry t booked ∷ [] } in
+    let here_is : direction_at middle i Client ≡ direction_at w i Client = takes.others i (omega arith) ∙ back.earlier i (omega arith) ∙ went.earlier i (omega arith) in
+    let lane : Direction = record { prepares = (direction_at middle i Client).prepares; given = (direction_at middle i Client).given ++ answer_to (suc (p i)) r.0 ∷ [] } in
+    let after_is : x ≡ with_lane middle i Client lane = subst (λ l. x ≡ with_answer middle l Client (answer_to (suc (p i)) r.0)) prev settles.1 in
+    let lane_is : direction_at x i Client ≡ lane = ap (λ z. direction_at z i Client) after_is ∙ lane_here middle i Client lane (let k = takes.links in omega (arith, k, inside)) in
+    let lanes : (j : ℕ) → j ≢ i → direction_at x j Client ≡ direction_at middle j Client = (λ j apart. ap (λ z. direction_at z j Client) after_is ∙ lane_there middle i Client lane j Client (λ e. apart e.0)) in
+    let new : Node = record { state = r.1; answered = node.answered ++ settled_entry t booked ∷ [] } in
     let nodes_are : x.nodes ≡ set u.nodes i new = ap (λ (z : World). z.nodes) after_is ∙ takes.nodes in
-    let given_long : length (lane_at middle i Client).given ≡ g i = ap (λ (z : Lane). length z.given) here_is ∙ on.given in
+    let given_long : length (direction_at middle i Client).given ≡ g i = ap (λ (z : Direction). length z.given) here_is ∙ on.given in
     let many = back.count in
     let many_more = went.count in
     record {
@@ -296,13 +296,13 @@ back_at_hop i w v u x after others f t p g text onward hops c now told on went t
       links = ap (λ (z : World). length z.links) after_is ∙ length-set middle.links i _ ∙ takes.links ∙ back.links ∙ went.links;
       before = λ j l. ap (λ ns. slice_get ns j) nodes_are ∙ get_set_apart u.nodes i new j (omega (arith, l)) ∙ back.before j (omega (arith, l)) ∙ went.before j l;
       earlier = λ j l. lanes j (omega (arith, l)) ∙ takes.others j (omega (arith, l)) ∙ back.earlier j (omega (arith, l)) ∙ went.earlier j (omega (arith, l));
-      puts = ap (λ (z : Lane). z.puts) lane_is ∙ ap (λ (z : Lane). z.puts) here_is;
-      answer = given_by (suc (p i)) r.0;
-      has_answer = ap (λ (z : Lane). slice_get z.given (g i)) lane_is ∙ last_at (lane_at middle i Client).given (given_by (suc (p i)) r.0) (g i) given_long;
+      prepares = ap (λ (z : Direction). z.prepares) lane_is ∙ ap (λ (z : Direction). z.prepares) here_is;
+      answer = answer_to (suc (p i)) r.0;
+      has_answer = ap (λ (z : Direction). slice_get z.given (g i)) lane_is ∙ last_at (direction_at middle i Client).given (answer_to (suc (p i)) r.0) (g i) given_long;
       which = refl;
       bytes = ap (λ s. s.0) same;
-      given = ap (λ (z : Lane). length z.given) lane_is ∙ length_push (lane_at middle i Client).given (given_by (suc (p i)) r.0) ∙ ap suc given_long;
-      later = λ j l m. subst (HasGone (suc (p j)) (suc (g j))) (sym (lanes j (omega (arith, l)))) (passed_after i p g v u middle c takes.puts takes.given takes.others back went.on.puts j l (omega (arith, m, many_more)));
+      given = ap (λ (z : Direction). length z.given) lane_is ∙ length_push (direction_at middle i Client).given (answer_to (suc (p i)) r.0) ∙ ap suc given_long;
+      later = λ j l m. subst (HasGone (suc (p j)) (suc (g j))) (sym (lanes j (omega (arith, l)))) (passed_after i p g v u middle c takes.prepares takes.given takes.others back went.on.prepares j l (omega (arith, m, many_more)));
     }
 
 -- ---- over all links
@@ -336,9 +336,9 @@ pub record Ends (w v : World) (e : EndState) : Type 0 where
   pub server : end_at v Server ≡ end_at w Server
   pub nodes : v.nodes ≡ w.nodes
   pub links : length v.links ≡ length w.links
-  pub lanes : (m l j : ℕ) → HasGone m l (lane_at w j Client) → HasGone m l (lane_at v j Client)
+  pub lanes : (m l j : ℕ) → HasGone m l (direction_at w j Client) → HasGone m l (direction_at v j Client)
 
-ends_as : (w v : World) (gone : EndState) (flight : flights.Open) (n : ℕ) (p : Put) (answer : List ℕ) (told : Told) (o : Option Flight) → end_at w Client ≡ gone → flight_of p ≡ flight → 0 < length w.links → BackAtEnd w 0 Client (suc n) p (Some answer) Client o told v
+ends_as : (w v : World) (gone : EndState) (flight : flights.Open) (n : ℕ) (p : SentPrepare) (answer : List ℕ) (told : Told) (o : Option Flight) → end_at w Client ≡ gone → flight_of p ≡ flight → 0 < length w.links → BackAtEnd w 0 Client (suc n) p (Some answer) Client o told v
     → Ends w v (ended_with gone flight o (Some answer))
 ends_as w v gone flight n p answer told None client same inside back = record {
   client = ap (λ z. end_at z Client) back.1 ∙ client;
@@ -346,7 +346,7 @@ ends_as w v gone flight n p answer told None client same inside back = record {
   server = ap (λ z. end_at z Server) back.1;
   nodes = ap (λ (z : World). z.nodes) back.1;
   links = ap (λ (z : World). length z.links) back.1;
-  lanes = λ m l j h. subst (λ z. HasGone m l (lane_at z j Client)) (sym back.1) h;
+  lanes = λ m l j h. subst (λ z. HasGone m l (direction_at z j Client)) (sym back.1) h;
 }
 ends_as w v gone flight n p answer told (Some flown) client same inside back =
     let e = after_outcome (end_at w Client) (flight_of p) flown (Some answer) in
@@ -359,22 +359,22 @@ ends_as w v gone flight n p answer told (Some flown) client same inside back =
       server = ap (λ z. end_at z Server) is ∙ ap (λ (es : Both Party). (at es Server).state) takes.ends;
       nodes = ap (λ (z : World). z.nodes) is ∙ takes.nodes;
       links = ap (λ (z : World). length z.links) is ∙ takes.links;
-      lanes = λ m l j h. subst (λ z. HasGone m l (lane_at z j Client)) (sym is) (elim (cases_eq j 0) [
-        | inl zero_is ↦ subst (λ k. HasGone m l (lane_at (taken_if (pays (flight_of p) (Some answer)) middle 0 Client (suc n)) k Client)) (sym zero_is)
-            (let here = subst (λ k. HasGone m l (lane_at w k Client)) zero_is h in record { puts = takes.puts ∙ here.puts; given = takes.given ∙ here.given })
+      lanes = λ m l j h. subst (λ z. HasGone m l (direction_at z j Client)) (sym is) (elim (cases_eq j 0) [
+        | inl zero_is ↦ subst (λ k. HasGone m l (direction_at (taken_if (pays (flight_of p) (Some answer)) middle 0 Client (suc n)) k Client)) (sym zero_is)
+            (let here = subst (λ k. HasGone m l (direction_at w k Client)) zero_is h in record { prepares = takes.prepares ∙ here.prepares; given = takes.given ∙ here.given })
         | inr apart ↦ subst (HasGone m l) (sym (takes.others j apart)) h
       ]);
     }
 
 -- a fault there books no answer
-pub ends_faulted : (w v : World) (gone : EndState) (flight : flights.Open) (p : Put) (told : Told) (o : Option Flight) → end_at w Client ≡ gone → flight_of p ≡ flight → BackAtEnd w 0 Client 0 p None Client o told v → Ends w v (ended_with gone flight o None)
+pub ends_faulted : (w v : World) (gone : EndState) (flight : flights.Open) (p : SentPrepare) (told : Told) (o : Option Flight) → end_at w Client ≡ gone → flight_of p ≡ flight → BackAtEnd w 0 Client 0 p None Client o told v → Ends w v (ended_with gone flight o None)
 ends_faulted w v gone flight p told None client same back = record {
   client = ap (λ z. end_at z Client) back.1 ∙ client;
   ledgers = ap (λ (z : World). z.ledgers) back.1;
   server = ap (λ z. end_at z Server) back.1;
   nodes = ap (λ (z : World). z.nodes) back.1;
   links = ap (λ (z : World). length z.links) back.1;
-  lanes = λ m l j h. subst (λ z. HasGone m l (lane_at z j Client)) (sym back.1) h;
+  lanes = λ m l j h. subst (λ z. HasGone m l (direction_at z j Client)) (sym back.1) h;
 }
 ends_faulted w v gone flight p told (Some flown) client same back =
     let is : v ≡ with_end w Client (after_outcome (end_at w Client) (flight_of p) flown None) = back.1 in
@@ -384,32 +384,32 @@ ends_faulted w v gone flight p told (Some flown) client same back =
       server = ap (λ z. end_at z Server) is;
       nodes = ap (λ (z : World). z.nodes) is;
       links = ap (λ (z : World). length z.links) is;
-      lanes = λ m l j h. subst (λ z. HasGone m l (lane_at z j Client)) (sym is) h;
+      lanes = λ m l j h. subst (λ z. HasGone m l (direction_at z j Client)) (sym is) h;
     }
 
-all_passed : (w v : World) (c : Crossed) (p g : ℕ → ℕ) → IsBack 0 w v p g c → length (lane_at w 0 Client).puts ≡ suc (p 0) → (j : ℕ) → j ≤ length w.nodes → HasGone (suc (p j)) (suc (g j)) (lane_at v j Client)
-all_passed w v c p g back long zero l = record { puts = ap length back.puts ∙ long; given = back.given }
+all_passed : (w v : World) (c : Crossed) (p g : ℕ → ℕ) → IsBack 0 w v p g c → length (direction_at w 0 Client).prepares ≡ suc (p 0) → (j : ℕ) → j ≤ length w.nodes → HasGone (suc (p j)) (suc (g j)) (direction_at v j Client)
+all_passed w v c p g back long zero l = record { prepares = ap length back.prepares ∙ long; given = back.given }
 all_passed w v c p g back long (suc j) l = back.later (suc j) (omega arith) l
 
 pub map_long : (ns : List Node) → length (map state_of ns) ≡ length ns
 map_long [] = refl
 map_long (n ∷ ns) = let e = map_long ns in omega (arith, e)
 
-pub sent_put : (w v : World) (e : EndState) (hops : List Hop) (f gone : EndState) (p g : ℕ → ℕ) (flight : flights.Open) (bytes : List ℕ) → IsSettled w e hops f p g → v ≡ with_put (with_end w Client gone) 0 Client (put_by flight bytes) → slice_get (lane_at v 0 Client).puts (p 0) ≡ Some (put_by flight bytes)
+pub sent_put : (w v : World) (e : EndState) (hops : List Hop) (f gone : EndState) (p g : ℕ → ℕ) (flight : flights.Open) (bytes : List ℕ) → IsSettled w e hops f p g → v ≡ with_prepare (with_end w Client gone) 0 Client (prepare_of_flight flight bytes) → slice_get (direction_at v 0 Client).prepares (p 0) ≡ Some (prepare_of_flight flight bytes)
 sent_put w v e hops f gone p g flight bytes rest is =
     let middle = with_end w Client gone in
     let first = rest.lanes 0 (omega arith) in
-    let lane : Lane = record { puts = (lane_at w 0 Client).puts ++ put_by flight bytes ∷ []; given = (lane_at w 0 Client).given } in
-    let lane_is : lane_at v 0 Client ≡ lane = ap (λ z. lane_at z 0 Client) is ∙ lane_here middle 0 Client lane (let k = rest.links in omega (arith, k)) in
-    ap (λ (x : Lane). slice_get x.puts (p 0)) lane_is ∙ last_at (lane_at w 0 Client).puts (put_by flight bytes) (p 0) first.puts
+    let lane : Direction = record { prepares = (direction_at w 0 Client).prepares ++ prepare_of_flight flight bytes ∷ []; given = (direction_at w 0 Client).given } in
+    let lane_is : direction_at v 0 Client ≡ lane = ap (λ z. direction_at z 0 Client) is ∙ lane_here middle 0 Client lane (let k = rest.links in omega (arith, k)) in
+    ap (λ (x : Direction). slice_get x.prepares (p 0)) lane_is ∙ last_at (direction_at w 0 Client).prepares (prepare_of_flight flight bytes) (p 0) first.prepares
 
 -- a world in which the client put what it sent on its link
-pub sent_on_link : (w v : World) (e : EndState) (hops : List Hop) (f gone : EndState) (p g : ℕ → ℕ) (flight : flights.Open) (bytes : List ℕ) → IsSettled w e hops f p g → v ≡ with_put (with_end w Client gone) 0 Client (put_by flight bytes) → IsOn 0 v hops f p g bytes
+pub sent_on_link : (w v : World) (e : EndState) (hops : List Hop) (f gone : EndState) (p g : ℕ → ℕ) (flight : flights.Open) (bytes : List ℕ) → IsSettled w e hops f p g → v ≡ with_prepare (with_end w Client gone) 0 Client (prepare_of_flight flight bytes) → IsOn 0 v hops f p g bytes
 sent_on_link w v e hops f gone p g flight bytes rest is =
     let middle = with_end w Client gone in
     let first = rest.lanes 0 (omega arith) in
-    let lane : Lane = record { puts = (lane_at w 0 Client).puts ++ put_by flight bytes ∷ []; given = (lane_at w 0 Client).given } in
-    let lane_is : lane_at v 0 Client ≡ lane = ap (λ z. lane_at z 0 Client) is ∙ lane_here middle 0 Client lane (let k = rest.links in omega (arith, k)) in
+    let lane : Direction = record { prepares = (direction_at w 0 Client).prepares ++ prepare_of_flight flight bytes ∷ []; given = (direction_at w 0 Client).given } in
+    let lane_is : direction_at v 0 Client ≡ lane = ap (λ z. direction_at z 0 Client) is ∙ lane_here middle 0 Client lane (let k = rest.links in omega (arith, k)) in
     let nodes_are : v.nodes ≡ w.nodes = ap (λ (z : World). z.nodes) is in
     let links_same : length v.links ≡ length w.links = ap (λ (z : World). length z.links) is ∙ length-set w.links 0 _ in
     let many : length v.nodes ≡ length w.nodes = ap length nodes_are in
@@ -418,12 +418,12 @@ sent_on_link w v e hops f gone p g flight bytes rest is =
       nodes = ap (map state_of) nodes_are ∙ rest.hops_are;
       within = (let long : length (map state_of w.nodes) ≡ length hops = ap length rest.hops_are in let same = map_long w.nodes in omega (arith, long, same, many));
       links = (let k = rest.links in omega (arith, k, links_same, many));
-      put = put_by flight bytes;
+      put = prepare_of_flight flight bytes;
       has_put = sent_put w v e hops f gone p g flight bytes rest is;
       bytes = refl;
-      puts = ap (λ (x : Lane). length x.puts) lane_is ∙ length_push (lane_at w 0 Client).puts (put_by flight bytes) ∙ ap suc first.puts;
-      given = ap (λ (x : Lane). length x.given) lane_is ∙ first.given;
-      later = λ j l m. subst (HasGone (p j) (g j)) (sym (ap (λ z. lane_at z j Client) is ∙ lane_there middle 0 Client lane j Client (λ z. let at : j ≡ 0 = z.0 in absurd (omega (arith, at, l))))) (rest.lanes j (omega (arith, m, many)));
+      prepares = ap (λ (x : Direction). length x.prepares) lane_is ∙ length_push (direction_at w 0 Client).prepares (prepare_of_flight flight bytes) ∙ ap suc first.prepares;
+      given = ap (λ (x : Direction). length x.given) lane_is ∙ first.given;
+      later = λ j l m. subst (HasGone (p j) (g j)) (sym (ap (λ z. direction_at z j Client) is ∙ lane_there middle 0 Client lane j Client (λ z. let at : j ≡ 0 = z.0 in absurd (omega (arith, at, l))))) (rest.lanes j (omega (arith, m, many)));
     }
 
 pub crossing_settles : (w mid v : World) (e : EndState) (hops : List Hop) (f : EndState) (p g : ℕ → ℕ) (iv : List ℕ) (now : ℤ) → IsSettled w e hops f p g → ((flight : flights.Open) (bytes : List ℕ) (gone : EndState) → Goes e iv now flight bytes gone → AllForward hops bytes now)
@@ -444,11 +444,11 @@ crossing_settles w mid v e hops f p g iv now rest forward (inr sent) run =
     let answer = back.answer in
     let told = last.0 in
     let found : AnswerBack u 0 Client (suc (g 0)) now (Some answer) told v = subst (λ o. AnswerBack u 0 Client (suc (g 0)) now o told v) back.has_answer last.1 in
-    let put_is : nth (lane_at u 0 Client).puts answer.which ≡ Some (put_by flight bytes) = ap (nth (lane_at u 0 Client).puts) back.which ∙ ap (λ ps. slice_get ps (p 0)) back.puts ∙ sent_put w mid e hops f gone p g flight bytes rest is in
-    let at_put : Back u 0 Client (suc (g 0)) now (Some answer.bytes) (Some (put_by flight bytes)) told v = subst (λ o. Back u 0 Client (suc (g 0)) now (Some answer.bytes) o told v) put_is found in
+    let put_is : nth (direction_at u 0 Client).prepares answer.which ≡ Some (prepare_of_flight flight bytes) = ap (nth (direction_at u 0 Client).prepares) back.which ∙ ap (λ ps. slice_get ps (p 0)) back.prepares ∙ sent_put w mid e hops f gone p g flight bytes rest is in
+    let at_put : Back u 0 Client (suc (g 0)) now (Some answer.bytes) (Some (prepare_of_flight flight bytes)) told v = subst (λ o. Back u 0 Client (suc (g 0)) now (Some answer.bytes) o told v) put_is found in
     let client : end_at u Client ≡ gone = back.client ∙ ap (λ z. end_at z Client) is in
-    let at_end : BackAtEnd u 0 Client (suc (g 0)) (put_by flight bytes) (Some answer.bytes) Client (open_flight gone flight) told v = subst (λ z. BackAtEnd u 0 Client (suc (g 0)) (put_by flight bytes) (Some answer.bytes) Client (open_flight z flight) told v) client at_put in
-    let ends = ends_as u v gone flight (g 0) (put_by flight bytes) answer.bytes told (open_flight gone flight) client refl (let a = back.links in let b = on.links in omega (arith, a, b)) at_end in
+    let at_end : BackAtEnd u 0 Client (suc (g 0)) (prepare_of_flight flight bytes) (Some answer.bytes) Client (open_flight gone flight) told v = subst (λ z. BackAtEnd u 0 Client (suc (g 0)) (prepare_of_flight flight bytes) (Some answer.bytes) Client (open_flight z flight) told v) client at_put in
+    let ends = ends_as u v gone flight (g 0) (prepare_of_flight flight bytes) answer.bytes told (open_flight gone flight) client refl (let a = back.links in let b = on.links in omega (arith, a, b)) at_end in
     let many = back.count in
     let nodes_same : length v.nodes ≡ length u.nodes = ap length ends.nodes in
     record {
@@ -462,7 +462,7 @@ crossing_settles w mid v e hops f p g iv now rest forward (inr sent) run =
         server = ends.server ∙ back.server;
         hops_are = ap (map state_of) ends.nodes ∙ back.nodes;
         links = (let a = ends.links in let b = back.links in let k = on.links in omega (arith, a, b, k, nodes_same, many));
-        lanes = λ j l. ends.lanes (suc (p j)) (suc (g j)) j (all_passed mid u c p g back on.puts j (omega (arith, l, nodes_same, many)));
+        lanes = λ j l. ends.lanes (suc (p j)) (suc (g j)) j (all_passed mid u c p g back on.prepares j (omega (arith, l, nodes_same, many)));
       };
     }
 

@@ -5,7 +5,7 @@ use Rattle.st_hop.specs.declared.account.Account.{Account}
 use Rattle.st_sender.specs.Sending.{Config}
 use Rattle.st_end.specs.Sending.{GoesNone}
 use Rattle.st_world_parts.specs.Sides.{Client, Server}
-use Rattle.st_world_parts.specs.State.{World, end_at, lane_at}
+use Rattle.st_world_parts.specs.State.{World, end_at, direction_at}
 use Rattle.st_world.specs.Left.{Left, left_of}
 use Rattle.st_world_quiet.specs.Losses as losses
 use Rattle.st_world_quiet.specs.Calls.{MaySend}
@@ -116,7 +116,7 @@ pub record DeliversFated (limit : ℕ) (xs : List (List ℕ)) (ms rs : List ℕ)
   pub played : IsPlayedFated (input_of xs) (money_of ms) (money_of rs) (course_at (courses_of fates)) (length xs) (length w.nodes) q.sends q.carried w world
   pub delivered : IsDeliveredLossy limit (losses.lost_answers (kinds_of fates)) xs ms world
   pub credit : (end_at world Server).receiving.credit ≡ sum ms + q.carried
-  pub sends : length (lane_at world 0 Client).puts ≡ q.sends
+  pub sends : length (direction_at world 0 Client).prepares ≡ q.sends
 
 -- ---- its premises for a chain that forwards amounts unchanged, by the accounts of its hops
 

@@ -5,8 +5,8 @@ use Rattle.st_keys.specs.Keys.{keys_of}
 use Rattle.st_end.specs.declared.role.Role.TheVariants as roles
 use Rattle.st_end.specs.State.{EndState, new_end}
 use Rattle.st_world_parts.specs.Sides.{Client, Server}
-use Rattle.st_world_parts.specs.State.{World, ledger_at}
-use Rattle.st_world_parts.specs.Ledgers.{Ledger}
+use Rattle.st_world_parts.specs.State.{World, log_at}
+use Rattle.st_world_parts.specs.StreamLogs.{StreamLog}
 use Rattle.st_world_parts.specs.Events.{Close, Event, IsEvent, Offer, OpenStream, Opened, Read, ReceiveMax, Send, Sent, Write}
 use Rattle.st_world.specs.Steps.{Step}
 use Rattle.st_world.specs.Runs.{Chain, Table, new_node, opening}
@@ -22,20 +22,20 @@ reads limit first zero = []
 reads limit first (suc m) = Read Server first limit ∷ reads limit (first + 1) m
 
 -- as much of the rest of a stream's input as fits, by what was written and read of it so far
-abbrev pub fits : List ℕ → Ledger → List ℕ
+abbrev pub fits : List ℕ → StreamLog → List ℕ
 fits xs l = take (length l.read + 262144 - length l.written) (drop (length l.written) xs)
 
 -- a write of it, and a close if that is its end
 abbrev pub close_if : Bool → (stream : ℕ) → List Event
 close_if b k = if b then Close Client k ∷ [] else []
 
-abbrev pub writes : List ℕ → (stream : ℕ) → Ledger → List Event
+abbrev pub writes : List ℕ → (stream : ℕ) → StreamLog → List Event
 writes xs k l = Write Client k (fits xs l) ∷ close_if (nat_eq (length l.written + length (fits xs l)) (length xs)) k
 
 -- of each stream at the client
 abbrev pub Writes : (input : ℕ → List ℕ) → (first count : ℕ) → World → World → Type 0
 Writes input first zero w v = v ≡ w
-Writes input first (suc m) w v = (mid : World) × Met w (writes (input first) first (ledger_at w Client first)) mid × Writes input (first + 1) m mid v
+Writes input first (suc m) w v = (mid : World) × Met w (writes (input first) first (log_at w Client first)) mid × Writes input (first + 1) m mid v
 
 -- a Prepare that crosses `hops` hops, all at one moment
 pub record Round (input : ℕ → List ℕ) (limit hops count : ℕ) (w v : World) : Type 0 where
@@ -69,7 +69,7 @@ pub record Begins (input : ℕ → List ℕ) (money : ℕ → ℕ) (w v : World)
   pub offered : World
   pub opens : Step w (OpenStream Client) (Opened (Ok stream)) opened
   pub offers : Met opened (Offer Client stream (money stream) ∷ []) offered
-  pub writes_first : Met offered (writes (input stream) stream (ledger_at offered Client stream)) v
+  pub writes_first : Met offered (writes (input stream) stream (log_at offered Client stream)) v
 
 -- `count` of them
 abbrev pub BeginsEach : (ℕ → List ℕ) → (ℕ → ℕ) → (count : ℕ) → World → World → Type 0

@@ -4,7 +4,7 @@ use Rattle.std.specs.Prelude.{◌≡◌, ◌&&◌, Bool, ℕ, zero, suc, ◌+◌
 use Rattle.std.specs.List.{AllByRecursion}
 use Rattle.st_receiver.specs.Streams.{incoming_at}
 use Rattle.st_world_parts.specs.Sides.{Client, Server}
-use Rattle.st_world_parts.specs.State.{World, end_at, ledger_at}
+use Rattle.st_world_parts.specs.State.{World, end_at, log_at}
 use Rattle.st_world_parts.specs.Events.{AnswerArrives, Arrive, Event, Fault, IsEvent, Send, Sent}
 use Rattle.st_world.specs.Steps.{Step}
 use Rattle.st_world.specs.Runs.{Chain, opening}
@@ -162,9 +162,9 @@ are_lawful_lossy xs ms rs = are_lawful xs ms && nat_eq (length rs) (length xs)
 -- a stream's bytes were all written and read, its end was reported, and its money credited, with at most `most` in addition
 -- that lost answers carried
 pub record HasAllLossy (bytes : List ℕ) (money most stream : ℕ) (w : World) : Type 0 where
-  pub written : (ledger_at w Client stream).written ≡ bytes
-  pub read : (ledger_at w Client stream).read ≡ bytes
-  pub told_end : (ledger_at w Client stream).told_end ≡ true
+  pub written : (log_at w Client stream).written ≡ bytes
+  pub read : (log_at w Client stream).read ≡ bytes
+  pub saw_end : (log_at w Client stream).saw_end ≡ true
   pub credited : money ≤ (incoming_at (end_at w Server).receiving stream).credited
   pub within : (incoming_at (end_at w Server).receiving stream).credited ≤ money + most
 

@@ -3,7 +3,7 @@ use Rattle.std.specs.Prelude.{◌≡◌, ℕ, ◌+◌, ◌-◌, ◌*◌, ◌/◌
 use Rattle.std.specs.List.{AllByRecursion}
 use Rattle.st_receiver.specs.Streams.{incoming_at}
 use Rattle.st_world_parts.specs.Sides.{Client, Server}
-use Rattle.st_world_parts.specs.State.{World, end_at, ledger_at}
+use Rattle.st_world_parts.specs.State.{World, end_at, log_at}
 use Rattle.st_world.specs.Runs.{Chain}
 use Rattle.st_world_quiet.specs.Calls.{MaySend}
 use Rattle.st_world_quiet.specs.HopRounds.{HasRoomFor}
@@ -56,9 +56,9 @@ pub record MayPlay (c : Chain) (xs : List (List ℕ)) (ms : List ℕ) : Type 0 w
 
 -- a stream's bytes were all written and read, its end was reported, and its money credited
 pub record HasAll (bytes : List ℕ) (money stream : ℕ) (w : World) : Type 0 where
-  pub written : (ledger_at w Client stream).written ≡ bytes
-  pub read : (ledger_at w Client stream).read ≡ bytes
-  pub told_end : (ledger_at w Client stream).told_end ≡ true
+  pub written : (log_at w Client stream).written ≡ bytes
+  pub read : (log_at w Client stream).read ≡ bytes
+  pub saw_end : (log_at w Client stream).saw_end ≡ true
   pub credited : (incoming_at (end_at w Server).receiving stream).credited ≡ money
 
 abbrev pub IsDelivered : List (List ℕ) → List ℕ → World → Type 0

@@ -1,7 +1,7 @@
 -- What is promised of a whole run.
 use Rattle.std.specs.Prelude.{◌≡◌, ℕ, Bool, true, false, List, length, sum, Result, Err}
 use Rattle.st_world_parts.specs.Sides.{Client, Server}
-use Rattle.st_world_parts.specs.State.{World, end_at, lane_at}
+use Rattle.st_world_parts.specs.State.{World, end_at, direction_at}
 use Rattle.st_world.specs.Left.{left_of}
 use Rattle.st_world_quiet.specs.Plays.{IsDelivered, input_of, money_of}
 use Rattle.st_world_quiet.specs.declared.stop.Stop.{Stop}
@@ -21,4 +21,4 @@ pub record Delivers (xs : List (List ℕ)) (ms : List ℕ) (w : World) (q : Outc
   pub played : IsPlayed (input_of xs) (money_of ms) (length xs) (length w.nodes) q.sends w world
   pub delivered : IsDelivered xs ms world
   pub credit : (end_at world Server).receiving.credit ≡ sum ms
-  pub sends : length (lane_at world 0 Client).puts ≡ q.sends
+  pub sends : length (direction_at world 0 Client).prepares ≡ q.sends

@@ -10,7 +10,7 @@ use Rattle.st_end.specs.declared.flight.Open as flights
 use Rattle.st_end.specs.Sending.{Goes}
 use Rattle.st_end.specs.Answers.{ended}
 use Rattle.st_world_parts.specs.Sides.{Client, Server}
-use Rattle.st_world_parts.specs.State.{Lane, Node, World, end_at, lane_at}
+use Rattle.st_world_parts.specs.State.{Direction, Node, World, end_at, direction_at}
 use Rattle.st_world_parts.specs.Events.{AnswerArrives, Arrive, Event, IsEvent, Told}
 use Rattle.st_world.specs.Steps.{Step}
 use Rattle.st_world_quiet.specs.Crossing.{crossed}
@@ -26,12 +26,12 @@ abbrev pub state_of : Node → Hop
 state_of n = n.state
 
 -- how many Prepares were put on a lane, and how many answers were given on it
-pub record HasGone (prepares answers : ℕ) (lane : Lane) : Type 0 where
-  pub puts : length lane.puts ≡ prepares
-  pub given : length lane.given ≡ answers
+pub record HasGone (sent returned : ℕ) (lane : Direction) : Type 0 where
+  pub prepares : length lane.prepares ≡ sent
+  pub given : length lane.given ≡ returned
 
 -- `count` Prepares crossed a lane, and each was answered
-abbrev pub HasPassed : (count : ℕ) → Lane → Type 0
+abbrev pub HasPassed : (count : ℕ) → Direction → Type 0
 HasPassed count lane = HasGone count count lane
 
 -- the client is e, the server f, and the hops between them are these; on each link's lane towards the server these numbers
@@ -41,7 +41,7 @@ pub record IsSettled (w : World) (e : EndState) (hops : List Hop) (f : EndState)
   pub server : end_at w Server ≡ f
   pub hops_are : map state_of w.nodes ≡ hops
   pub links : length w.links ≡ length w.nodes + 1
-  pub lanes : (link : ℕ) → link ≤ length w.nodes → HasGone (prepares link) (answers link) (lane_at w link Client)
+  pub lanes : (link : ℕ) → link ≤ length w.nodes → HasGone (prepares link) (answers link) (direction_at w link Client)
 
 -- as many of both over all links
 abbrev pub IsAtRest : World → EndState → List Hop → EndState → (count : ℕ) → Type 0

@@ -18,7 +18,7 @@ pub enum Fate {
 
 impl Fate {
     /// How many Prepares it has put on a link: one, or none after the link that loses its Prepare.
-    pub(crate) fn puts(&self, link: usize) -> usize
+    pub(crate) fn prepares(&self, link: usize) -> usize
         ensures one { result ≡ puts_on (course_of self.now) link }
     {
         match self {

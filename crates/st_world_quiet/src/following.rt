@@ -22,7 +22,7 @@ fn puts_before(fates: &[Fate], sends: usize, link: usize) -> usize
 {
     let mut count: usize = 0;
     for send in 0..sends {
-        count += fate_at(fates, send).puts(link);
+        count += fate_at(fates, send).prepares(link);
     }
     count
 }
@@ -39,7 +39,7 @@ fn answers_before(fates: &[Fate], all: usize, sends: usize, link: usize) -> usiz
     count
 }
 
-/// The number of the Prepare that the Send after `sends` others puts on a link.
+/// The number of the Prepare that the Send after `sends` others prepares on a link.
 fn prepare(fates: &[Fate], sends: usize, link: usize) -> usize
     requires { sends + 1 < 2 ^ 64 }
     ensures { result ≡ suc (puts_by (course_at (courses_of fates.now)) sends link) }

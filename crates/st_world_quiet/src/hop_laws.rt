@@ -33,7 +33,7 @@ ghost use Rattle.st_world_parts.specs.Events.{Send, Sent};
 ghost use Rattle.st_world.specs.Steps.{Step};
 ghost use Rattle.st_world_quiet.specs.Chains.{Crossing, Crossings, Stands};
 ghost use Rattle.st_world_parts.specs.Sides.{Server};
-ghost use Rattle.st_world_parts.specs.State.{end_at, lane_at, ledger_at};
+ghost use Rattle.st_world_parts.specs.State.{end_at, direction_at, log_at};
 ghost use Rattle.st_oer.specs.Address.{is_address};
 ghost use Rattle.st_world.specs.Runs.{Chain, is_chain, opening};
 ghost use Rattle.st_end.specs.Sending.{GoesNone};
@@ -101,7 +101,7 @@ pub fn a_prepare_crosses_a_world()
 /// runs that there are.
 pub fn a_prepare_may_cross()
     ensures { (c : Chain) (limit : ℕ) → is_chain c ≡ true → is_address c.server ≡ true → MayPlay c ([] ∷ []) (0 ∷ []) → 32739 ≤ limit
-        → (v : World) × QuietRun c (input_of ([] ∷ [])) (money_of (0 ∷ [])) 1 limit 1 v × ((link : ℕ) → link ≤ length v.nodes → HasPassed 1 (lane_at v link Client)) × (work_left (lengths (input_of ([] ∷ []))) (end_at v Client).sending ≡ 0) }
+        → (v : World) × QuietRun c (input_of ([] ∷ [])) (money_of (0 ∷ [])) 1 limit 1 v × ((link : ℕ) → link ≤ length v.nodes → HasPassed 1 (direction_at v link Client)) × (work_left (lengths (input_of ([] ∷ []))) (end_at v Client).sending ≡ 0) }
 {}
 
 /// A lossless run of a world, by its events from a world in which nothing has happened, has no more Sends than the
@@ -113,7 +113,7 @@ pub fn a_quiet_run_of_a_world_is_bounded()
     ensures sharper { (c : Chain) (input : ℕ → List ℕ) (money : ℕ → ℕ) (count limit m : ℕ) (v : World) → MayRun c input money count limit → QuietRun c input money count limit m v
         → m + work_left (lengths input) (end_at v Client).sending ≤ work_left (lengths input) (opening_client c input money count).sending }
     ensures sends { (c : Chain) (input : ℕ → List ℕ) (money : ℕ → ℕ) (count limit m : ℕ) (v : World) → MayRun c input money count limit → QuietRun c input money count limit m v
-        → length (lane_at v 0 Client).puts ≡ m }
+        → length (direction_at v 0 Client).prepares ≡ m }
     ensures opens { (c : Chain) (input : ℕ → List ℕ) (money : ℕ → ℕ) (count limit m i : ℕ) (v : World) → MayRun c input money count limit → QuietRun c input money count limit m v
         → i < count → (x : Outgoing) × (outgoing_at (end_at v Client).sending (2 * i + 1) ≡ Some x) }
     ensures delivered { (c : Chain) (input : ℕ → List ℕ) (money : ℕ → ℕ) (count limit m k : ℕ) (v : World) (x : Outgoing) → MayRun c input money count limit → QuietRun c input money count limit m v
@@ -121,7 +121,7 @@ pub fn a_quiet_run_of_a_world_is_bounded()
         → ((incoming_at (end_at v Server).receiving k).held.read ≡ length (input k)) × ((incoming_at (end_at v Server).receiving k).credited ≡ money k) }
     ensures whole { (c : Chain) (input : ℕ → List ℕ) (money : ℕ → ℕ) (count limit m k : ℕ) (v : World) (x : Outgoing) → MayRun c input money count limit → QuietRun c input money count limit m v
         → GoesNone (end_at v Client) → outgoing_at (end_at v Client).sending k ≡ Some x
-        → ((ledger_at v Client k).read ≡ input k) × ((ledger_at v Client k).written ≡ input k) }
+        → ((log_at v Client k).read ≡ input k) × ((log_at v Client k).written ≡ input k) }
     ensures ends { (c : Chain) (input : ℕ → List ℕ) (money : ℕ → ℕ) (count limit m k most : ℕ) (v : World) (x : Outgoing) → MayRun c input money count limit → QuietRun c input money count limit m v
         → GoesNone (end_at v Client) → outgoing_at (end_at v Client).sending k ≡ Some x → got most (incoming_at (end_at v Server).receiving k).held ≡ End }
 {}
@@ -140,7 +140,7 @@ pub fn a_played_run_delivers()
     ensures credit { (c : Chain) (xs : List (List ℕ)) (ms : List ℕ) (limit m : ℕ) (v w : World) → are_lawful xs ms ≡ true → MayPlay c xs ms → 32739 ≤ limit → QuietRun c (input_of xs) (money_of ms) (length xs) limit m v
         → GoesNone (end_at v Client) → Met v (reads limit 0 65) w → (end_at w Server).receiving.credit ≡ sum ms }
     ensures sends { (c : Chain) (xs : List (List ℕ)) (ms : List ℕ) (limit m : ℕ) (v w : World) → are_lawful xs ms ≡ true → MayPlay c xs ms → 32739 ≤ limit → QuietRun c (input_of xs) (money_of ms) (length xs) limit m v
-        → Met v (reads limit 0 65) w → length (lane_at w 0 Client).puts ≡ m }
+        → Met v (reads limit 0 65) w → length (direction_at w 0 Client).prepares ≡ m }
     ensures opens { (c : Chain) (xs : List (List ℕ)) (ms : List ℕ) (opened : ℕ) (allowed begun : World) → are_lawful xs ms ≡ true → MayPlay c xs ms → Met (opening c) (allows (money_of ms) 0 65) allowed → BeginsEach (input_of xs) (money_of ms) opened allowed begun
         → opened < length xs → is_ok (open_stream (end_at begun Client)).0 ≡ true }
 {}
@@ -203,7 +203,7 @@ pub fn a_lossy_run_of_a_world_is_bounded()
     ensures sharper { (c : Chain) (input : ℕ → List ℕ) (money most : ℕ → ℕ) (streams limit m : ℕ) (course : ℕ → Course) (v : World) → MayRunLossy c input money most streams limit (fates_of course 0 m) → LossyRun c input money most streams limit course m v
         → m + work_left (lengths input) (end_at v Client).sending ≤ work_left (lengths input) (opening_client c input money streams).sending + losses (fates_of course 0 m) }
     ensures sends { (c : Chain) (input : ℕ → List ℕ) (money most : ℕ → ℕ) (streams limit m : ℕ) (course : ℕ → Course) (v : World) → MayRunLossy c input money most streams limit (fates_of course 0 m) → LossyRun c input money most streams limit course m v
-        → length (lane_at v 0 Client).puts ≡ m }
+        → length (direction_at v 0 Client).prepares ≡ m }
     ensures opens { (c : Chain) (input : ℕ → List ℕ) (money most : ℕ → ℕ) (streams limit m i : ℕ) (course : ℕ → Course) (v : World) → MayRunLossy c input money most streams limit (fates_of course 0 m) → LossyRun c input money most streams limit course m v
         → i < streams → (x : Outgoing) × (outgoing_at (end_at v Client).sending (2 * i + 1) ≡ Some x) }
     ensures delivered { (c : Chain) (input : ℕ → List ℕ) (money most : ℕ → ℕ) (streams limit m k : ℕ) (course : ℕ → Course) (v : World) (x : Outgoing) → MayRunLossy c input money most streams limit (fates_of course 0 m) → LossyRun c input money most streams limit course m v
@@ -211,7 +211,7 @@ pub fn a_lossy_run_of_a_world_is_bounded()
         → ((incoming_at (end_at v Server).receiving k).held.read ≡ length (input k)) × (money k ≤ (incoming_at (end_at v Server).receiving k).credited) × ((incoming_at (end_at v Server).receiving k).credited ≤ money k + lost_answers (fates_of course 0 m) * min c.config.packet_limit (money k)) }
     ensures whole { (c : Chain) (input : ℕ → List ℕ) (money most : ℕ → ℕ) (streams limit m k : ℕ) (course : ℕ → Course) (v : World) (x : Outgoing) → MayRunLossy c input money most streams limit (fates_of course 0 m) → LossyRun c input money most streams limit course m v
         → GoesNone (end_at v Client) → outgoing_at (end_at v Client).sending k ≡ Some x
-        → ((ledger_at v Client k).read ≡ input k) × ((ledger_at v Client k).written ≡ input k) }
+        → ((log_at v Client k).read ≡ input k) × ((log_at v Client k).written ≡ input k) }
     ensures ends { (c : Chain) (input : ℕ → List ℕ) (money most : ℕ → ℕ) (streams limit m k bytes : ℕ) (course : ℕ → Course) (v : World) (x : Outgoing) → MayRunLossy c input money most streams limit (fates_of course 0 m) → LossyRun c input money most streams limit course m v
         → GoesNone (end_at v Client) → outgoing_at (end_at v Client).sending k ≡ Some x → got bytes (incoming_at (end_at v Server).receiving k).held ≡ End }
     ensures credit { (c : Chain) (input : ℕ → List ℕ) (money most : ℕ → ℕ) (streams limit m : ℕ) (course : ℕ → Course) (v : World) → MayRunLossy c input money most streams limit (fates_of course 0 m) → (run : LossyRun c input money most streams limit course m v)

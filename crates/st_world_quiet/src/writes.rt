@@ -2,7 +2,7 @@
 
 ghost use Rattle.std.specs.Prelude.{◌≡◌, ◌+◌, ◌-◌, ◌<◌, ◌^◌, length, take, drop, IfErr, OnOk};
 ghost use Rattle.st_world_parts.specs.Sides.{Client};
-ghost use Rattle.st_world_parts.specs.State.{ledger_at};
+ghost use Rattle.st_world_parts.specs.State.{log_at};
 ghost use Rattle.st_world_quiet.specs.Worlds.{Met};
 ghost use Rattle.st_world_quiet.specs.HopRounds.{writes};
 ghost use Rattle.st_world_quiet.specs.Plays.{input_of, money_of};
@@ -50,8 +50,8 @@ pub(crate) fn money_at(money: &[u64], stream: u8) -> u64
 
 /// How many bytes of a stream of the client were written and read.
 fn progress<A: Allocator + Copy>(world: &World<A>, stream: u8) -> (usize, usize)
-    ensures written { result.0 ≡ length (ledger_at world.now Client stream).written }
-    ensures read { result.1 ≡ length (ledger_at world.now Client stream).read }
+    ensures written { result.0 ≡ length (log_at world.now Client stream).written }
+    ensures read { result.1 ≡ length (log_at world.now Client stream).read }
 {
     match world.trace().ledger(Side::Client, stream) {
         Some(ledger) => (ledger.written().len(), ledger.read().len()),
@@ -78,7 +78,7 @@ pub(crate) fn write_on<A: Allocator + Copy>(
     stream: u8,
     input: &[u8],
 ) -> Result<(), Stop>
-    ensures met { OnOk result (Met world.old (writes input.now stream (ledger_at world.old Client stream)) world.new) }
+    ensures met { OnOk result (Met world.old (writes input.now stream (log_at world.old Client stream)) world.new) }
     ensures stops { IfErr result (λ e. Stops ⊥ ⊥ e world.old world.new) }
 {
     if !world.has_stream(Side::Client, stream) {

@@ -6,8 +6,8 @@ ghost use Rattle.st_queues.specs.Watching.{no_totals};
 ghost use Rattle.st_queues.specs.WriteEnds.{SameWriteEnd};
 
 use st_queues::{
-    Delivery, Gauge, GaugeSeat, Got, HubName, HubSeat, Named, QueueError, ReadEnd, ReadLane, Rings,
-    StreamWriter, Totals, WriteEnd, WriteLane,
+    Delivery, Gauge, GaugeSeat, Got, HubName, HubSeat, Named, QueueError, ReadEnd, ReadRing, Rings,
+    StreamWriter, Totals, WriteEnd, WriteRing,
 };
 use std::alloc::{Allocator, Global};
 use std::marker::Brand;
@@ -40,8 +40,8 @@ fn rings_are_refused_where_memory_is(rt: HostRuntime) {
 
 /// The first ring.
 fn first_write<N: HubName<A>, A: Allocator + Copy>(
-    mut lanes: Vec<WriteLane<A>, A>,
-) -> Option<WriteLane<A>>
+    mut lanes: Vec<WriteRing<A>, A>,
+) -> Option<WriteRing<A>>
     requires { AllNamed N.write_ring lanes.items }
     ensures { IfSome result (λ x. IsOurs N.write_ring x) }
 {
@@ -52,8 +52,8 @@ fn first_write<N: HubName<A>, A: Allocator + Copy>(
 }
 
 fn first_read<N: HubName<A>, A: Allocator + Copy>(
-    mut lanes: Vec<ReadLane<A>, A>,
-) -> Option<ReadLane<A>>
+    mut lanes: Vec<ReadRing<A>, A>,
+) -> Option<ReadRing<A>>
     requires { AllNamedReads N.read_ring lanes.items }
     ensures { IfSome result (λ x. IsOurRead N.read_ring x) }
 {
@@ -99,7 +99,7 @@ fn write_three<N: HubName<A>, A: Allocator + Copy>(
 fn use_write_ring<N: HubName<A>, A: Allocator + Copy>(
     rt: &impl Abort,
     alloc: A,
-    writes: Vec<WriteLane<A>, A>,
+    writes: Vec<WriteRing<A>, A>,
     one: Vec<u8, A>,
     two: Vec<u8, A>,
 )
@@ -114,7 +114,7 @@ fn use_write_ring<N: HubName<A>, A: Allocator + Copy>(
 }
 
 /// An abort goes through the first reader's ring.
-fn use_read_ring<N: HubName<A>, A: Allocator + Copy>(rt: &impl Abort, reads: Vec<ReadLane<A>, A>)
+fn use_read_ring<N: HubName<A>, A: Allocator + Copy>(rt: &impl Abort, reads: Vec<ReadRing<A>, A>)
     requires { AllNamedReads N.read_ring reads.items }
 {
     let mut lane = first_read::<N, A>(reads).expect(rt, "there is a ring");

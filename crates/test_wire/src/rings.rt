@@ -5,7 +5,7 @@ ghost use Rattle.st_queues.specs.WriteEnds.{SameWriteEnd};
 
 use st_queues::{
     Gauge, GaugeSeat, HubName, HubSeat, Item, Named, QueueError, Rings, StreamWriter, Totals,
-    WriteEnd, WriteLane,
+    WriteEnd, WriteRing,
 };
 use std::alloc::Global;
 use std::marker::Brand;
@@ -13,9 +13,9 @@ use std::process::Abort;
 
 /// The ring of this number.
 fn write_lane<N: HubName<Global>>(
-    mut lanes: Vec<WriteLane<Global>>,
+    mut lanes: Vec<WriteRing<Global>>,
     ring: usize,
-) -> Option<WriteLane<Global>>
+) -> Option<WriteRing<Global>>
     requires { AllNamed N.write_ring lanes.items }
     ensures { IfSome result (λ x. Fresh ring x × IsOurs N.write_ring x) }
 {
@@ -62,7 +62,7 @@ fn open_write<N: HubName<Global>>(
     alloc: Global,
     rings: Rings<Global>,
     ring: usize,
-) -> (WriteLane<Global>, StreamWriter<N, Global>)
+) -> (WriteRing<Global>, StreamWriter<N, Global>)
     requires gauge { rings.gauge ≡ N.gauge }
     requires writes { (k : ℕ) → N.write_ring k ≡ ring_at rings.writes k }
     requires reads { (k : ℕ) → N.read_ring k ≡ ring_at rings.reads k }

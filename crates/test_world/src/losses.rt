@@ -105,7 +105,7 @@ fn is_whole(trace: &Trace<Global>, side: Side, stream: u8, input: &[u8]) -> bool
     let Some(ledger) = trace.ledger(side, stream) else {
         return false;
     };
-    ledger.read() == input && ledger.told_end()
+    ledger.read() == input && ledger.saw_end()
 }
 
 /// The first `count` bytes of a text.
@@ -440,7 +440,7 @@ fn both_send(rt: &impl Abort, alloc: Global, numbers: &mut Numbers, bytes: &[u8]
     }
     let ends = [(Side::Client, 1), (Side::Server, 2)];
     let are_told = ends.iter().all(|(side, stream)| match world.trace().ledger(*side, *stream) {
-        Some(ledger) => ledger.read() == ledger.written() && ledger.told_end(),
+        Some(ledger) => ledger.read() == ledger.written() && ledger.saw_end(),
         None => false,
     });
     are_told && client.is_bounded() && server.is_bounded()

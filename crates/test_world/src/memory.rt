@@ -6,7 +6,7 @@ use crate::rows::{account, config};
 use st_hop::Account;
 use st_receiver::Got;
 use st_world::{Event, Fault, Trace};
-use st_world_parts::{EndEntry, Side, Told, Way};
+use st_world_parts::{AnsweredAtEnd, Side, Told, Way};
 use std::alloc::{Allocator, Global};
 use std::process::Abort;
 use test_refusing::Refusing;
@@ -176,9 +176,9 @@ fn is_read<A: Allocator + Copy>(trace: &Trace<A>) -> bool {
     ledger.written() == TEXT
         && ledger.read() == TEXT
         && ledger.is_closed()
-        && ledger.told_end()
+        && ledger.saw_end()
         && !ledger.is_aborted()
-        && !ledger.told_abort()
+        && !ledger.saw_abort()
         && trace.ledger(Side::Server, 1).is_none()
 }
 
@@ -224,7 +224,7 @@ fn has_fulfilled<A: Allocator + Copy>(trace: &Trace<A>, sequences: &[u64], amoun
     wanted.next().is_none()
 }
 
-fn is_next(entry: &EndEntry, sequence: Option<&u64>, amount: u64) -> bool {
+fn is_next(entry: &AnsweredAtEnd, sequence: Option<&u64>, amount: u64) -> bool {
     entry.amount == amount && entry.sequence == sequence.copied()
 }
 

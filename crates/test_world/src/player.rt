@@ -208,7 +208,7 @@ impl<A: Allocator + Copy> Player<A> {
         self.note_answer(rt, link, way);
     }
 
-    /// A Prepare arrives at a hop, which puts it on the next link.
+    /// A Prepare arrives at a hop, which prepares it on the next link.
     pub(crate) fn pass(&mut self, rt: &impl Abort, link: usize, way: Way, which: usize) {
         assert!(rt; matches!(self.come(rt, link, way, which), Told::Went));
     }
@@ -219,7 +219,7 @@ impl<A: Allocator + Copy> Player<A> {
         self.note_answer(rt, link, way);
     }
 
-    /// The link before this one, unless an end puts its Prepares here.
+    /// The link before this one, unless an end prepares its Prepares here.
     fn before(&self, link: usize, way: Way) -> Option<usize> {
         match way {
             Way::ToServer => link.checked_sub(1),

@@ -80,7 +80,7 @@ fn is_whole<A: Allocator + Copy>(trace: &Trace<A>, stream: u8, input: &[u8]) -> 
     let Some(ledger) = trace.ledger(Side::Client, stream) else {
         return false;
     };
-    ledger.written() == input && ledger.read() == input && ledger.is_closed() && ledger.told_end()
+    ledger.written() == input && ledger.read() == input && ledger.is_closed() && ledger.saw_end()
 }
 
 fn are_whole<A: Allocator + Copy>(trace: &Trace<A>, input: &[&[u8]]) -> bool {

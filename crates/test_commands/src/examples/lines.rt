@@ -1,7 +1,6 @@
 //! The command `frames` over a reader and two writers.
 
-use ilpstream_frames::run_frames;
-use st_devices::{CountRead, CountWrite};
+use ilpstream_frames::{CountRead, CountWrite, run_frames};
 use std::alloc::Allocator;
 
 /// The status of `frames` over these lines, and what it printed.

@@ -1,7 +1,6 @@
 //! A Prepare that passes through a hop.
 
-use st_hop::{Account, HopError, HopState, Moment, Outcome, Route, Verdict};
-use st_links::Link;
+use st_hop::{Account, HopError, HopState, Link, Moment, Outcome, Route, Verdict};
 use std::alloc::Global;
 
 /// A hop between account 0, for `example.a`, and account 1, for `example.b`: each may owe 100.

@@ -1,8 +1,6 @@
 //! An end under a lock.
 
-use st_hub::{Bench, HubError, Link, Outcome, StreamWriter, Turn};
-use st_ilp::Moment;
-use st_queues::{HubName, QueueError};
+use st_hub::{Bench, HubError, HubName, Link, Moment, Outcome, QueueError, StreamWriter, Turn};
 use std::alloc::Global;
 use std::sync::Wait;
 

@@ -1,7 +1,7 @@
 use Rattle.std.proofs.Common.{◌<◌, List, arith, sym, ap, subst, ◌∙◌, refl}
 use Rattle.st_sender.specs.declared.bounds.Bounds.{Bounds}
-use Rattle.st_sender.specs.declared.load.Flown as code
-use Rattle.st_sender.specs.declared.load.Flown.TheVariants as held
+use Rattle.st_sender.specs.declared.load.SentFrame as code
+use Rattle.st_sender.specs.declared.load.SentFrame.TheVariants as held
 use Rattle.st_sender.specs.Allowed.{AreClosings, IsFinished, costs}
 use Rattle.st_sender.proofs.Totals.{found_at}
 use Rattle.st_sender.proofs.Changing.{same_lane, no_lane}
@@ -11,7 +11,7 @@ use Rattle.st_sender.proofs.choose.closings.Goals.{in-Some+in-Some-finished+in_o
 
 pub loop-number-init : goal.loop-number-init
 loop-number-init g c = (
-  subst (λ (fs : List code.Flown). AreClosings c.args.streams.now c.args.flights.now c.args.bounds 0 fs) (sym c.new-frames.ensures.items) (closings_none c.args.streams.now c.args.flights.now c.args.bounds),
+  subst (λ (fs : List code.SentFrame). AreClosings c.args.streams.now c.args.flights.now c.args.bounds 0 fs) (sym c.new-frames.ensures.items) (closings_none c.args.streams.now c.args.flights.now c.args.bounds),
   sym (less_none c.args.bounds (costs c.new-frames.result.items) (ap costs c.new-frames.ensures.items)),
 )
 

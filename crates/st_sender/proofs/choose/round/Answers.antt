@@ -1,9 +1,9 @@
 use Rattle.std.proofs.Common.{◌≡◌, ◌<◌, [], ◌∷◌, ◌++◌, List, Some, length, arith, sym, ap, subst, ◌∙◌, inr}
 use Rattle.st_streams.specs.Slots.{slot}
 use Rattle.st_sender.specs.declared.bounds.Bounds.{Bounds}
-use Rattle.st_sender.specs.declared.load.Flown as code
-use Rattle.st_sender.specs.declared.load.Flown.TheVariants as held
-use Rattle.st_sender.specs.Lanes.{Lane}
+use Rattle.st_sender.specs.declared.load.SentFrame as code
+use Rattle.st_sender.specs.declared.load.SentFrame.TheVariants as held
+use Rattle.st_sender.specs.Lanes.{SendStream}
 use Rattle.st_sender.specs.Allowed.{left_beside, IsStopped, IsReady, in_round, start_of, AreServed, IsCutAt}
 use Rattle.st_sender.proofs.Totals.{found_at}
 use Rattle.st_sender.proofs.Changing.{same_lane, no_lane}
@@ -15,7 +15,7 @@ use Rattle.st_sender.proofs.choose.round.Goals.{in-Some+in-Some-ready+in_ok-push
 
 pub loop-place-init : goal.loop-place-init
 loop-place-init g c = (
-  subst (λ (fs : List code.Flown). AreServed c.args.streams.now c.args.flights.now c.args.bounds c.args.turn 0 fs) (sym c.new-frames.ensures.items) (served_none c.args.streams.now c.args.flights.now c.args.bounds c.args.turn),
+  subst (λ (fs : List code.SentFrame). AreServed c.args.streams.now c.args.flights.now c.args.bounds c.args.turn 0 fs) (sym c.new-frames.ensures.items) (served_none c.args.streams.now c.args.flights.now c.args.bounds c.args.turn),
   sym (ap (left_beside c.args.streams.now c.args.flights.now c.args.bounds) c.new-frames.ensures.items ∙ left_none c.args.streams.now c.args.flights.now c.args.bounds),
 )
 
@@ -84,7 +84,7 @@ loop-place-preserved g c =
           rw (w.frames-is, w.left-is) (
             served_skip lanes flights b turn n fs small was
                 (λ l e. let same = same_lane lanes number c.index-streams-number.result lane l lt c.index-streams-number.is w.in-Some.is (subst (λ k. slot lanes k ≡ Some l) (sym named) e) in
-                subst (λ k. IsStopped flights b k l) named (subst (λ (x : Lane). IsStopped flights b number x) same stopped)),
+                subst (λ k. IsStopped flights b k l) named (subst (λ (x : SendStream). IsStopped flights b number x) same stopped)),
             left,
           ))
       | in_default w ↦

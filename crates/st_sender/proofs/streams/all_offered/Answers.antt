@@ -1,7 +1,7 @@
 use Rattle.std.proofs.Common.{◌∙◌, refl, arith, ap}
 use Rattle.std.specs.declared.option.Option.{Option}
 use Rattle.st_streams.specs.Slots.{Slots}
-use Rattle.st_sender.specs.Lanes.{Lane, outs, out_of}
+use Rattle.st_sender.specs.Lanes.{SendStream, outs, out_of}
 use Rattle.st_sender.specs.Refusals.{offered_of, all_offered}
 use Rattle.st_sender.proofs.Totals.{total_next, total_whole}
 use Rattle.st_sender.proofs.streams.all_offered.Goals as goal
@@ -14,11 +14,11 @@ overflow_add-total g c = omega (arith, c.loop-place.invariant.1, c.loop-place-te
 
 pub loop-place-preserved : goal.loop-place-preserved
 loop-place-preserved g c = (
-  total_next (λ (lanes : Slots Lane). all_offered (outs lanes)) (λ (o : Option Lane). offered_of (out_of o)) (λ x xs. refl) c.deref-place-items.result.now c.args.streams.now.items c.loop-place.total c.from-total.result c.loop-place.place-index c.place-item.result
-      c.deref-place-items.ensures.value c.loop-place-test.true (c.from-total.ensures ∙ c.offered_in.ensures ∙ ap (λ (o : Option Lane). offered_of (out_of o)) c.place-item.is) c.loop-place.invariant.0,
+  total_next (λ (lanes : Slots SendStream). all_offered (outs lanes)) (λ (o : Option SendStream). offered_of (out_of o)) (λ x xs. refl) c.deref-place-items.result.now c.args.streams.now.items c.loop-place.total c.from-total.result c.loop-place.place-index c.place-item.result
+      c.deref-place-items.ensures.value c.loop-place-test.true (c.from-total.ensures ∙ c.offered_in.ensures ∙ ap (λ (o : Option SendStream). offered_of (out_of o)) c.place-item.is) c.loop-place.invariant.0,
   omega (arith, c.loop-place.invariant.1, c.offered_in.type_inv, c.from-total.ensures),
 )
 
 pub returns : goal.returns
 returns g c =
-    total_whole (λ (lanes : Slots Lane). all_offered (outs lanes)) refl c.deref-place-items.result.now c.args.streams.now.items c.loop-place.total c.loop-place.place-index c.deref-place-items.ensures.value (omega (arith, c.loop-place-test.false)) c.loop-place.invariant.0
+    total_whole (λ (lanes : Slots SendStream). all_offered (outs lanes)) refl c.deref-place-items.result.now c.args.streams.now.items c.loop-place.total c.loop-place.place-index c.deref-place-items.ensures.value (omega (arith, c.loop-place-test.false)) c.loop-place.invariant.0

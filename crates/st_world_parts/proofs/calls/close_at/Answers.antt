@@ -3,7 +3,7 @@ use Rattle.std.proofs.lemmas.Grind.{common_steps}
 use Rattle.st_end.specs.Calls as calls
 use Rattle.st_world_parts.specs.State.{Party}
 use Rattle.st_world_parts.specs.Events.{Call}
-use Rattle.st_world_parts.specs.Ledgers.{cleanly_closed}
+use Rattle.st_world_parts.specs.StreamLogs.{cleanly_closed}
 use Rattle.st_world_parts.proofs.Slots.{at_slot, slot_keeps, close_keeps}
 use Rattle.st_world_parts.proofs.Flights.{same_kept}
 use Rattle.st_world_parts.proofs.calls.close_at.Goals as goal

@@ -1,7 +1,7 @@
 use Rattle.std.proofs.Common.{◌≡◌, arith}
 use Rattle.std.proofs.lemmas.Grind.{common_steps}
 use Rattle.st_end.specs.Calls as calls
-use Rattle.st_world_parts.specs.Ledgers.{written}
+use Rattle.st_world_parts.specs.StreamLogs.{written}
 use Rattle.st_world_parts.proofs.Slots.{at_slot, slot_keeps, write_keeps}
 use Rattle.st_world_parts.proofs.Flights.{same_kept}
 use Rattle.st_world_parts.proofs.calls.write_at.Goals as goal

@@ -1,6 +1,6 @@
 use Rattle.std.proofs.Common.{[], ◌∷◌}
 use Rattle.st_world_parts.specs.Sides.{Client}
-use Rattle.st_world_parts.specs.State.{ledger_at}
+use Rattle.st_world_parts.specs.State.{log_at}
 use Rattle.st_world_parts.specs.Events.{Offer}
 use Rattle.st_world_quiet.specs.Worlds.{Met}
 use Rattle.st_world_quiet.specs.HopRounds.{Begins, writes}
@@ -21,7 +21,7 @@ pub returns-clause-begins : goal.returns-clause-begins
 returns-clause-begins g c =
     let k = c.in_ok-stream.stream in
     let b = c.take.new.world in
-    ok_as c.write_on.result (Met b (writes c.input_at.result.now k (ledger_at b Client k)) c.write_on.new.world) (Begins (input_of (bytes_of c.args.input.now)) (money_of c.args.money.now) c.args.world.now c.write_on.new.world)
+    ok_as c.write_on.result (Met b (writes c.input_at.result.now k (log_at b Client k)) c.write_on.new.world) (Begins (input_of (bytes_of c.args.input.now)) (money_of c.args.money.now) c.args.world.now c.write_on.new.world)
     (begins_by (input_of (bytes_of c.args.input.now)) (money_of c.args.money.now) k c.money_at-amount.result c.input_at.result.now c.args.world.now c.open.new.world b c.write_on.new.world c.money_at-amount.ensures c.input_at.ensures
     c.in_ok-stream.ensures.opened c.in_ok-take.ensures.met) c.write_on.ensures.met
 

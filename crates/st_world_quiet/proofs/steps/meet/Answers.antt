@@ -7,5 +7,5 @@ use Rattle.st_world_quiet.proofs.steps.meet.Goals as goal
 
 pub returns-then-refused-clause-stops : goal.returns-then-refused-clause-stops
 returns-then-refused-clause-stops g c =
-    let noted : c.step.new.self.refused ≡ true = sym (ap (λ (t : Left). t.refused) c.trace.ensures.trace) ∙ sym c.refused.ensures ∙ c.if-refused.true in
-    stops_refused c.args.world.now c.step.new.self (event_seen c.args.event.now) (told_seen c.in-Ok.told) c.in-Ok.ensures.happens noted
+    let with_refusal : c.step.new.self.refused ≡ true = sym (ap (λ (t : Left). t.refused) c.trace.ensures.trace) ∙ sym c.refused.ensures ∙ c.if-refused.true in
+    stops_refused c.args.world.now c.step.new.self (event_seen c.args.event.now) (told_seen c.in-Ok.told) c.in-Ok.ensures.happens with_refusal

@@ -1,6 +1,6 @@
 use Rattle.std.proofs.Common.{List, ℕ, arith, subst}
 use Rattle.st_world_parts.specs.Sides.{Client}
-use Rattle.st_world_parts.specs.State.{ledger_at}
+use Rattle.st_world_parts.specs.State.{log_at}
 use Rattle.st_world_quiet.specs.Worlds.{Met}
 use Rattle.st_world_quiet.specs.HopRounds.{writes}
 use Rattle.st_world_quiet.specs.Plays.{input_of}
@@ -20,7 +20,7 @@ loop-stream-preserved g c =
     let k = c.loop-stream.stream in
     let w = c.loop-stream.world in
     writes_more (input_of (bytes_of c.args.input.now)) k c.args.world.now w c.write_on.new.world c.loop-stream.invariant
-    (subst (λ (ys : List ℕ). Met w (writes ys k (ledger_at w Client k)) c.write_on.new.world) c.input_at.ensures c.in_ok-write_on.ensures.met)
+    (subst (λ (ys : List ℕ). Met w (writes ys k (log_at w Client k)) c.write_on.new.world) c.input_at.ensures c.in_ok-write_on.ensures.met)
 
 pub returns-clause-writes : goal.returns-clause-writes
 returns-clause-writes g c =

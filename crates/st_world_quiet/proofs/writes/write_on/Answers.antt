@@ -1,7 +1,7 @@
 use Rattle.std.proofs.Common.{◌≡◌, ◌∙◌, [], ◌∷◌, false, sym, arith, rules}
 use Rattle.std.proofs.lemmas.Grind.{common_steps}
 use Rattle.st_world_parts.specs.Sides.{Client}
-use Rattle.st_world_parts.specs.State.{ledger_at}
+use Rattle.st_world_parts.specs.State.{log_at}
 use Rattle.st_world_parts.specs.Events.{Close, Write}
 use Rattle.st_world_quiet.specs.Worlds.{Met}
 use Rattle.st_world_quiet.specs.HopRounds.{writes}
@@ -22,7 +22,7 @@ returns-then-written-piece-clause-met g c =
 
 pub returns-clause-met : goal.returns-clause-met
 returns-clause-met g c =
-    ok_as c.take-2.result (Met c.take.new.world (Close Client c.args.stream ∷ []) c.take-2.new.world) (Met c.args.world.now (writes c.args.input.now c.args.stream (ledger_at c.args.world.now Client c.args.stream)) c.take-2.new.world)
+    ok_as c.take-2.result (Met c.take.new.world (Close Client c.args.stream ∷ []) c.take-2.new.world) (Met c.args.world.now (writes c.args.input.now c.args.stream (log_at c.args.world.now Client c.args.stream)) c.take-2.new.world)
     (wrote_all c.args.input.now c.args.stream c.args.world.now c.take.new.world c.take-2.new.world c.progress-written.result.0 c.progress-written.result.1 c.fitting-piece.result.now c.progress-written.ensures.written
     c.progress-written.ensures.read c.fitting-piece.ensures c.if-written-piece.false c.in_ok-take.ensures.met) c.take-2.ensures.met
 

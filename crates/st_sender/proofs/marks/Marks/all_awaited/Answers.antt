@@ -2,7 +2,7 @@ use Rattle.std.proofs.Common.{arith, sym, ap, ◌∙◌, refl}
 use Rattle.st_frames.specs.Seen.{seen}
 use Rattle.st_sender.specs.Allowed.{has_limit}
 use Rattle.st_sender.specs.Shown.{telling}
-use Rattle.st_sender.specs.declared.load.Flown.TheVariants as held
+use Rattle.st_sender.specs.declared.load.SentFrame.TheVariants as held
 use Rattle.st_sender.proofs.Prompted.{skip_this, told_this, full_any, push_this, done_all, push_left}
 use Rattle.st_sender.proofs.marks.Marks.all_awaited.Goals as goal
 use Rattle.st_sender.proofs.marks.Marks.all_awaited.Goals.{in-Some+then-len-lt-MAX_LIMITS+then-not-any_tells+in_ok-push, in-Some+else-len-lt-MAX_LIMITS, else-len-lt-MAX_LIMITS-via-then-len-lt-MAX_LIMITS+else-not-any_tells, else-len-lt-MAX_LIMITS-via-else-len-lt-MAX_LIMITS, in_default}
