@@ -18,4 +18,4 @@ pub mod Failing
 pub mod Expiries
 pub mod Working
 mod Pumps
-pub mod Rings
+pub mod RingSteps

@@ -5,7 +5,7 @@ use Rattle.st_hub.specs.Flow.{Inlet, inlet_at, no_inlet, has_end}
 use Rattle.st_hub.specs.Inside.{inlet_of, known_of, IsLane}
 use Rattle.st_hub.proofs.Lists.{each_set, found_at, at_map}
 use Rattle.st_hub.proofs.Tries.{lane_kept, taken_same}
-use Rattle.st_hub.proofs.Rings.{new_known, other_known}
+use Rattle.st_hub.proofs.RingSteps.{new_known, other_known}
 use Rattle.st_hub.proofs.lanes.meet_writer.Goals as goal
 
 pub meet-requires : goal.meet-requires

@@ -3,7 +3,7 @@ use Rattle.std.proofs.lemmas.List.{length-map}
 use Rattle.st_hub.specs.Inside.{outlet_of, room_of, IsReadLane}
 use Rattle.st_hub.proofs.Lists.{each_set, found_at}
 use Rattle.st_hub.proofs.Tries.{read_lane_kept, gave}
-use Rattle.st_hub.proofs.Rings.{fill_set, stops_giving_here}
+use Rattle.st_hub.proofs.RingSteps.{fill_set, stops_giving_here}
 use Rattle.st_hub.proofs.pumping.give_one.Goals as goal
 
 pub give_first-requires : goal.give_first-requires

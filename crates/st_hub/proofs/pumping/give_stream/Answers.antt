@@ -2,7 +2,7 @@ use Rattle.std.proofs.Common.{◌+◌, map, arith}
 use Rattle.st_hub.specs.Inside.{outlet_of, put_at, free_at}
 use Rattle.st_hub.specs.Trying as trying
 use Rattle.st_hub.proofs.StepTies.{flows_none, flows_join}
-use Rattle.st_hub.proofs.Rings.{fill_join, gave_one, stop_read}
+use Rattle.st_hub.proofs.RingSteps.{fill_join, gave_one, stop_read}
 use Rattle.st_hub.proofs.pumping.give_stream.Goals as goal
 
 pub returns-in_default : goal.returns-in_default

@@ -3,7 +3,7 @@ use Rattle.std.proofs.lemmas.Bool.{cases_eq}
 use Rattle.std.proofs.lemmas.List.{length-map}
 use Rattle.st_hub.specs.Inside.{inlet_of, outlet_of, known_of, room_of, flow_of}
 use Rattle.st_hub.proofs.StepTies.{flows_none, flows_join, steps_kept}
-use Rattle.st_hub.proofs.Rings.{had_memory, grow_none, grow_join, fill_none, fill_join, tried_on, tried_open, read_on, read_open}
+use Rattle.st_hub.proofs.RingSteps.{had_memory, grow_none, grow_join, fill_none, fill_join, tried_on, tried_open, read_on, read_open}
 use Rattle.st_hub.proofs.pumping.pump.Goals as goal
 
 pub loop-place-init : goal.loop-place-init

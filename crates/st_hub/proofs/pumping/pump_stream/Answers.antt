@@ -1,7 +1,7 @@
 use Rattle.std.proofs.Common.{map, refl}
 use Rattle.st_hub.specs.Inside.{inlet_of, outlet_of}
 use Rattle.st_hub.proofs.StepTies.{flows_none, flows_join}
-use Rattle.st_hub.proofs.Rings.{had_memory, grow_none, fill_none, tried_on, read_before}
+use Rattle.st_hub.proofs.RingSteps.{had_memory, grow_none, fill_none, tried_on, read_before}
 use Rattle.st_hub.proofs.pumping.pump_stream.Goals as goal
 
 pub returns-then-not-has_stream-clause-flows : goal.returns-then-not-has_stream-clause-flows

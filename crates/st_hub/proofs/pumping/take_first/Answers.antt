@@ -7,7 +7,7 @@ use Rattle.st_end.specs.Calls.{write}
 use Rattle.st_hub.specs.Flow.{has_end}
 use Rattle.st_hub.proofs.CoreCalls.{write_ok, refused_still}
 use Rattle.st_hub.proofs.Tries.{chunk_end, end_end}
-use Rattle.st_hub.proofs.Rings.{longer_join, longer_look, longer_took, one_more}
+use Rattle.st_hub.proofs.RingSteps.{longer_join, longer_look, longer_took, one_more}
 use Rattle.st_hub.proofs.pumping.take_first.Goals as goal
 
 pub returns-in-Ok-clause-over : goal.returns-in-Ok-clause-over

@@ -3,7 +3,7 @@ use Rattle.std.proofs.lemmas.List.{length-map}
 use Rattle.st_hub.specs.Inside.{inlet_of, known_of, IsLane}
 use Rattle.st_hub.proofs.Lists.{each_set, found_at}
 use Rattle.st_hub.proofs.Tries.{lane_kept, took}
-use Rattle.st_hub.proofs.Rings.{grow_set, stops_here}
+use Rattle.st_hub.proofs.RingSteps.{grow_set, stops_here}
 use Rattle.st_hub.proofs.pumping.take_one.Goals as goal
 
 pub take_first-requires : goal.take_first-requires

@@ -1,7 +1,7 @@
 use Rattle.std.proofs.Common.{◌+◌, ◌*◌, arith}
 use Rattle.st_hub.specs.Inside.{taken_at, stands_at}
 use Rattle.st_hub.proofs.StepTies.{flows_join}
-use Rattle.st_hub.proofs.Rings.{grow_join, moved_one, stop_found}
+use Rattle.st_hub.proofs.RingSteps.{grow_join, moved_one, stop_found}
 use Rattle.st_hub.proofs.pumping.take_ring.Goals as goal
 
 pub returns-in_default : goal.returns-in_default

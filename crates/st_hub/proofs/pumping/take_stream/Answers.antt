@@ -2,7 +2,7 @@ use Rattle.std.proofs.Common.{◌+◌, ◌*◌, arith, inl, inr}
 use Rattle.std.proofs.lemmas.Bool.{cases_eq}
 use Rattle.st_hub.specs.Inside.{taken_at, stands_at}
 use Rattle.st_hub.proofs.StepTies.{flows_join}
-use Rattle.st_hub.proofs.Rings.{had_memory, grow_join, found_from, tried_on, tried_here}
+use Rattle.st_hub.proofs.RingSteps.{had_memory, grow_join, found_from, tried_on, tried_here}
 use Rattle.st_hub.proofs.pumping.take_stream.Goals as goal
 
 pub returns-in-NoMemory : goal.returns-in-NoMemory
