@@ -17,7 +17,7 @@ ghost use Rattle.st_hub.specs.declared.error.HubError.TheVariants.{NoShareLeft, 
 use crate::error::HubError;
 use crate::hub::{HubState, publish};
 use st_end::{EndError, EndState, Flight, Received};
-use st_ilp::Moment;
+use st_ilp::{Moment, read_prepare};
 use st_links::Outcome;
 use st_queues::HubName;
 use st_sender::Blocked;
@@ -31,6 +31,9 @@ pub const SHARES: u64 = 63;
 
 /// For how many milliseconds a Prepare lives, as `EndState::send` makes it.
 const LIFE: i64 = 30_000;
+
+/// The most bytes of a stream that one frame of a Prepare has.
+const FRAME_BYTES: usize = 16_000;
 
 /// The moment at which a Prepare expires that is made now.
 fn after(now: Moment) -> Moment
@@ -117,6 +120,19 @@ impl<A: Allocator + Copy> Turn<A> {
         ensures { result ≡ self.now.stops }
     {
         self.stops
+    }
+
+    /// Whether more may be due after it: it pays an amount, or it has the length of a full frame of data. Otherwise it
+    /// carries all that could be sent.
+    pub(crate) fn may_leave_more(&self) -> bool {
+        let bytes = self.bytes.as_slice();
+        if bytes.len() >= FRAME_BYTES {
+            return true;
+        }
+        match read_prepare(bytes) {
+            Ok(prepare) => prepare.amount > 0,
+            Err(_) => false,
+        }
     }
 
     /// Gives the `Turn` up, if its answer will not be processed. What the Prepare carries stays in flight. Does not

@@ -177,7 +177,7 @@ fn pass_gate<'b, N: HubName<A>, A: Allocator + Copy, R: Wait + std::time::Clock>
 }
 
 /// Begins a round, at the time at which the gate lets it through. If there is nothing to send it sleeps for at most
-/// `rest`.
+/// `rest`. It wakes another worker only if more may be due.
 fn begin<N: HubName<A>, A: Allocator + Copy, K: Clock, R: Wait + std::time::Clock>(
     rt: &R,
     bench: &Bench<N, A>,
@@ -198,7 +198,9 @@ fn begin<N: HubName<A>, A: Allocator + Copy, K: Clock, R: Wait + std::time::Cloc
     match look(bench, &mut *state, hand, stream, now) {
         Begun::Sends(turn) => {
             bench.gate.lock(rt).begins(rt);
-            bench.woken.notify_one();
+            if turn.may_leave_more() {
+                bench.woken.notify_one();
+            }
             Begun::Sends(turn)
         }
         Begun::Idle => look_again(rt, bench, state, hand, stream, now, rest),
