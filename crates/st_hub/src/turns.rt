@@ -233,29 +233,29 @@ impl<N: HubName<A>, A: Allocator + Copy> HubState<N, A> {
     }
 
     /// Makes one step of a worker at the time `now`. It returns the next Prepare as `take_turn` does, under the IV in
-    /// `hand`, which is to be there; that IV is then used up, and `hand` is `None`. If nothing can be sent, `hand`
+    /// `spare_iv`, which is to be there; that IV is then used up, and `spare_iv` is `None`. If nothing can be sent, `spare_iv`
     /// keeps its IV, and the step is `Stalled` exactly if nothing is in flight and `stream` still waits: bytes that it
     /// accepted are not acknowledged, or its close is not fulfilled. `stream` 0 never waits.
     ///
     /// Fails with `NoMemory` if memory is refused, and for no other reason; then nothing has changed.
     pub fn step(
         &mut self,
-        hand: &mut Option<[u8; 12]>,
+        spare_iv: &mut Option<[u8; 12]>,
         stream: u8,
         now: Moment,
     ) -> Result<Step<A>, HubError>
-        requires hand { is_some hand.old ≡ true }
+        requires spare_iv { is_some spare_iv.old ≡ true }
         ensures only_memory { IsOkUnless result NoMemory }
-        ensures does { IfOk result (λ step. Does self.old.flow.core hand.old stream now step self.new.flow.core hand.new) }
-        ensures unchanged { OnErr result ((self.new.flow.core ≡ self.old.flow.core) × (hand.new ≡ hand.old)) }
+        ensures does { IfOk result (λ step. Does self.old.flow.core spare_iv.old stream now step self.new.flow.core spare_iv.new) }
+        ensures unchanged { OnErr result ((self.new.flow.core ≡ self.old.flow.core) × (spare_iv.new ≡ spare_iv.old)) }
         ensures rest { self.new ≡ with_core self.old self.new.flow.core }
     {
-        let Some(iv) = *hand else {
+        let Some(iv) = *spare_iv else {
             unreachable!();
         };
         match self.take_turn(iv, now) {
             Ok(Some(turn)) => {
-                *hand = None;
+                *spare_iv = None;
                 Ok(Step::Sends(turn))
             }
             Ok(None) => {
