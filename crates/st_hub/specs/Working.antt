@@ -87,7 +87,10 @@ Fills gives a spare_iv b after = (iv : List ℕ) × (after ≡ Some iv) × (((sp
 
 -- a worker made `count` rounds, each at a time that it read from its clock. What the source gave are the IVs of the packets that were sent,
 -- in their order, and after them the spare one: no IV serves twice. These packets were reported to the observer, and nothing else
-pub record Works {I L K W : Type 0} (gives : I → List ℕ → I → Type 0) (exchanges : L → List ℕ → Result (List ℕ) LinkFault → L → Type 0) (reads : K → ℤ → K → Type 0) (hears : W → Event → W → Type 0) (old : Around I L K W) (count : ℕ) (spare_iv : Option (List ℕ)) (new : Around I L K W) : Type 0 where
+pub record Works {I L K W : Type 0}
+    (gives : I → List ℕ → I → Type 0) (exchanges : L → List ℕ → Result (List ℕ) LinkFault → L → Type 0)
+    (reads : K → ℤ → K → Type 0) (hears : W → Event → W → Type 0)
+    (old : Around I L K W) (count : ℕ) (spare_iv : Option (List ℕ)) (new : Around I L K W) : Type 0 where
   pub turns : List Turned
   pub counted : length turns ≡ count
   pub gave : Gave gives old.ivs (ivs_of turns ++ spare_ivs spare_iv) new.ivs
@@ -97,14 +100,20 @@ pub record Works {I L K W : Type 0} (gives : I → List ℕ → I → Type 0) (e
 
 -- why a worker ended after `made` rounds of at most `most`, and what it took since: the source gave no IV; or all rounds were made; or
 -- somebody asked to stop; or it read its clock once more, and then found a reason at an end
-pub data EndsBy {I L K W : Type 0} (reads : K → ℤ → K → Type 0) (stream : ℕ) (made most : ℕ) (spare_iv : Option (List ℕ)) (old : Around I L K W) (end : WorkEnd) (new : Around I L K W) : Type 0 where
+pub data EndsBy {I L K W : Type 0}
+    (reads : K → ℤ → K → Type 0) (stream : ℕ) (made most : ℕ) (spare_iv : Option (List ℕ))
+    (old : Around I L K W) (end : WorkEnd) (new : Around I L K W) : Type 0 where
   no_iv : end ≡ IvFault → spare_iv ≡ None → new ≡ record old { ivs = new.ivs } → EndsBy reads stream made most spare_iv old end new
   all_turns : end ≡ Turns → made ≡ most → new ≡ old → EndsBy reads stream made most spare_iv old end new
   stopped : end ≡ Stopped → new ≡ old → EndsBy reads stream made most spare_iv old end new
-  found : (now : ℤ) (e : EndState) → reads old.clock now new.clock → EndsAt e stream end → new ≡ record old { clock = new.clock } → EndsBy reads stream made most spare_iv old end new
+  found : (now : ℤ) (e : EndState) → reads old.clock now new.clock → EndsAt e stream end → new ≡ record old { clock = new.clock }
+    → EndsBy reads stream made most spare_iv old end new
 
 -- a worker made some rounds, at most `most`, and ended
-pub record WorkedTo {I L K W : Type 0} (gives : I → List ℕ → I → Type 0) (exchanges : L → List ℕ → Result (List ℕ) LinkFault → L → Type 0) (reads : K → ℤ → K → Type 0) (hears : W → Event → W → Type 0) (stream : ℕ) (most : ℕ) (old : Around I L K W) (end : WorkEnd) (new : Around I L K W) : Type 0 where
+pub record WorkedTo {I L K W : Type 0}
+    (gives : I → List ℕ → I → Type 0) (exchanges : L → List ℕ → Result (List ℕ) LinkFault → L → Type 0)
+    (reads : K → ℤ → K → Type 0) (hears : W → Event → W → Type 0)
+    (stream : ℕ) (most : ℕ) (old : Around I L K W) (end : WorkEnd) (new : Around I L K W) : Type 0 where
   pub made : ℕ
   pub few : made ≤ most
   pub spare_iv : Option (List ℕ)
