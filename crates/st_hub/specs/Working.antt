@@ -107,7 +107,7 @@ pub data EndsBy {I L K W : Type 0}
   all_turns : end ≡ Turns → made ≡ most → new ≡ old → EndsBy reads stream made most spare_iv old end new
   stopped : end ≡ Stopped → new ≡ old → EndsBy reads stream made most spare_iv old end new
   found : (now : ℤ) (e : EndState) → reads old.clock now new.clock → EndsAt e stream end → new ≡ record old { clock = new.clock }
-    → EndsBy reads stream made most spare_iv old end new
+      → EndsBy reads stream made most spare_iv old end new
 
 -- a worker made some rounds, at most `most`, and ended
 pub record WorkedTo {I L K W : Type 0}

@@ -19,7 +19,7 @@ use st_hop::{Account, HopError, Route};
 use st_keys::Keys;
 use st_oer::Rate;
 use st_sender::EndConfig;
-use st_world_parts::{StreamLogs, Link, Node, Party};
+use st_world_parts::{Link, Node, Party, StreamLogs};
 use std::alloc::{AllocError, Allocator};
 
 /// The greatest number of hops of a chain: 8.

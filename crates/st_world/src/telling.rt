@@ -6,7 +6,7 @@ ghost use Rattle.st_world_parts.specs.Sides.{at};
 ghost use Rattle.st_world_parts.specs.Seen.{side_seen};
 
 use crate::trace::Trace;
-use st_world_parts::{StreamLog, Node, Party, Side};
+use st_world_parts::{Node, Party, Side, StreamLog};
 use std::alloc::Allocator;
 
 impl<A: Allocator + Copy> Trace<A> {

@@ -16,8 +16,8 @@ use crate::links::{
 use st_ilp::Moment;
 use st_links::Outcome;
 use st_world_parts::{
-    StreamLogs, Link, Node, Party, SentPrepare, Side, Told, Way, abort_at, close_at, offer_at, open_at,
-    raise_at, read_at, write_at,
+    Link, Node, Party, SentPrepare, Side, StreamLogs, Told, Way, abort_at, close_at, offer_at,
+    open_at, raise_at, read_at, write_at,
 };
 use std::alloc::{AllocError, Allocator};
 use std::marker::Model;

@@ -6,7 +6,9 @@ ghost use Rattle.st_hub.specs.Hub.{IsNew};
 use crate::ends::{client, server};
 use crate::gates::two_workers;
 use crate::hubs::{Locked, new_hubs, new_rings};
-use crate::wakes::{all_are_woken, gate_opens, more_is_due, others_end, room_is_made, takes_packets};
+use crate::wakes::{
+    all_are_woken, gate_opens, more_is_due, others_end, room_is_made, takes_packets,
+};
 use st_end::EndState;
 use st_queues::{GaugeSeat, HubName, Rings};
 use std::alloc::Global;
