@@ -201,7 +201,8 @@ impl<N: HubName<A>, A: Allocator + Copy> HubState<N, A> {
     /// Fails with `NoMemory` if memory is refused, and for no other reason; then nothing has changed.
     pub fn take_turn(&mut self, iv: [u8; 12], now: Moment) -> Result<Option<Turn<A>>, HubError>
         ensures only_memory { IsOkUnless result NoMemory }
-        ensures goes { IfOk result (λ sent. MatchOption sent (GoesNone self.old.flow.core × (self.new.flow.core ≡ self.old.flow.core)) (λ t. Goes self.old.flow.core iv now t.flight t.bytes self.new.flow.core)) }
+        ensures goes { IfOk result (λ sent. MatchOption sent (GoesNone self.old.flow.core × (self.new.flow.core ≡ self.old.flow.core))
+            (λ t. Goes self.old.flow.core iv now t.flight t.bytes self.new.flow.core)) }
         ensures stops { IfOk result (λ sent. IfSome sent (λ t. t.stops ≡ blocked_at self.new.flow.core.sending.flights t.flight.sequence)) }
         ensures unchanged { OnErr result (self.new.flow.core ≡ self.old.flow.core) }
         ensures rest { self.new ≡ with_core self.old self.new.flow.core }
@@ -275,7 +276,8 @@ impl<N: HubName<A>, A: Allocator + Copy> HubState<N, A> {
     ///
     /// Fails with `Stranger` if the `Turn` is not open at this hub. Then nothing has changed, and the `Turn` is spent.
     pub fn finish_turn(&mut self, turn: Turn<A>, outcome: Outcome<A>) -> Result<bool, HubError>
-        ensures finished { IfOk result (λ _. (sending.is_open self.old.flow.core turn.flight ≡ true) × (self.new.flow.core ≡ ended self.old.flow.core turn.flight (outcome_seen outcome))) }
+        ensures finished { IfOk result (λ _. (sending.is_open self.old.flow.core turn.flight ≡ true)
+            × (self.new.flow.core ≡ ended self.old.flow.core turn.flight (outcome_seen outcome))) }
         ensures paid { IfOk result (λ paid. paid ≡ pays turn.flight (outcome_seen outcome)) }
         ensures stranger { IfErr result (λ e. (e ≡ Stranger) × (sending.is_open self.old.flow.core turn.flight ≡ false) × (self.new ≡ self.old)) }
         ensures rest { self.new ≡ with_core self.old self.new.flow.core }
