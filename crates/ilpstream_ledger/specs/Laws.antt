@@ -52,7 +52,7 @@ EntriesAreByName =
     → length names ≡ length all
     → slice_get names at ≡ Some to
     → amounts_of names (paid_off all (paying kind at side amount moment)) name
-      ≡ after_entry kind (amounts_of names all) to side amount name
+    ≡ after_entry kind (amounts_of names all) to side amount name
 
 -- books that booked fulfilled Prepares, at the places of their accounts, gained at each name what the hop gained there
 abbrev pub BookingsAreByName : Type 0
@@ -64,4 +64,4 @@ BookingsAreByName =
     → ArePlaces names table places
     → AllByRecursion (IsNamed (length table)) bag
     → amounts_of names (booked all (map (booking_at places none proves) bag)) name
-      ≡ gained (amounts_of names all name) bag (line_of table name)
+    ≡ gained (amounts_of names all name) bag (line_of table name)

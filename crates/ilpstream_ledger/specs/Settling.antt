@@ -45,7 +45,7 @@ pub record WasThere {S : Type 0} (g : Ghosts S) (old : Kept S) (name : List ℕ)
 
 -- it has none, the books were only read until then, and the entry was made with it
 pub record IsEntered {S : Type 0} (g : Ghosts S) (old : Kept S) (name : List ℕ) (side : Side) (entry : Entry) (moment : ℕ)
-  (reference : List ℕ) (new : Kept S) : Type 0 where
+    (reference : List ℕ) (new : Kept S) : Type 0 where
   pub at : ℕ
   pub named : slice_get old.names at ≡ Some name
   pub read : Kept S

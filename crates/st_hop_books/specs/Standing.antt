@@ -68,7 +68,7 @@ pub record Draws (old new : View) (names : List (List ℕ)) (before after : List
 pub record Enters (old new : View) (names : List (List ℕ)) (before after : List Amounts) (last : ℕ) (bookings : List Booking) : Type 0 where
   pub frame : OnlyWrites old new
   pub books : (starts : ℕ) (trail : Trail) → last_id trail.proofs ≡ last → AreBooks old.trees starts names before trail
-    → AreBooks new.trees starts names after (with_bookings trail names bookings)
+      → AreBooks new.trees starts names after (with_bookings trail names bookings)
 
 -- the payments with this tally get this one more, in the tables of these accounts
 abbrev pub AddsEntry : (old new : View) → List (List ℕ) → (before after : List Amounts) → Tally → Payment → (text : List ℕ) → Type 0

@@ -75,11 +75,11 @@ pub(crate) fn file_proof<S: Alter>(
     ensures put { PutsRow S.Store store.old store.new result proof_tree (line_of_proof (last + 1) name.now amount proof) }
     ensures behind { OnOk result (IsClean (S.Store.view store.new)
         → AddsProof ((S.Store.view store.old).trees proof_tree) ((S.Store.view store.new).trees proof_tree)
-            last (line_of_proof (last + 1) name.now amount proof)) }
+        last (line_of_proof (last + 1) name.now amount proof)) }
     ensures frame { OnOk result (IsClean (S.Store.view store.new) → OnlyWrites (S.Store.view store.old) (S.Store.view store.new)) }
     ensures keeps { Keeps (S.Store.view store.old) (S.Store.view store.new) }
     ensures quiet { IsQuiet S.Store.view S.Store.faults S.Store.recovers S.Store.is_shielded store.old store.new }
-    ensures cause { FailsOnlyFor S.Store store.old store.new result 
+    ensures cause { FailsOnlyFor S.Store store.old store.new result
         (row_excuses (2 ^ 63 ≤ amount) (S.Store.view store.old) proof_tree (line_of_proof (last + 1) name.now amount proof)) }
 {
     let id = write_proof(row, last, name, amount, &proof)?;

@@ -142,7 +142,7 @@ fn add_payment<S: Alter>(
     ensures frame { OnOk result (IsClean (S.Store.view store.new) → OnlyWrites (S.Store.view store.old) (S.Store.view store.new)) }
     ensures keeps { Keeps (S.Store.view store.old) (S.Store.view store.new) }
     ensures quiet { IsQuiet S.Store.view S.Store.faults S.Store.recovers S.Store.is_shielded store.old store.new }
-    ensures cause { FailsOnlyFor S.Store store.old store.new result 
+    ensures cause { FailsOnlyFor S.Store store.old store.new result
         (row_excuses (IsUncountable payment) (S.Store.view store.old) payment_tree (next_line before name.now text.now payment)) }
 {
     write_payment(row, before, name, payment, text)?;
