@@ -1,8 +1,8 @@
 use Rattle.std.proofs.Common.{inr}
 use Rattle.st_hub.proofs.workers.begin.Goals as goal
 
-pub returns-in-Sends : goal.returns-in-Sends
-returns-in-Sends g c = inr (_, c.now-now.ensures, (_, _, rw c.in-Sends.is at c.look.ensures))
+pub returns-after-may_leave_more : goal.returns-after-may_leave_more
+returns-after-may_leave_more g c = inr (_, c.now-now.ensures, (_, _, rw c.in-Sends.is at c.look.ensures))
 
 -- the first look left the spare IV as it was
 pub returns-in-Idle : goal.returns-in-Idle
