@@ -7,7 +7,7 @@ ghost use Rattle.st_sender.specs.Shown.{telling};
 ghost use Rattle.st_sender.specs.Noticed.{IsBlockedAt, NoneBlocked, IsHeldAt, NoneHeld, IsConnectionBlocked};
 
 use crate::bounds::Bounds;
-use crate::in_flight::InFlight;
+use crate::in_flight::{InFlight, ends_of};
 use crate::load::Flight;
 use crate::notice::Notice;
 use crate::sizes::notice_size;
@@ -89,7 +89,8 @@ pub fn connection_blocked<A: Allocator + Copy>(
     if notice_size(bounds.sequence, notice) > bounds.room {
         return None;
     }
-    if is_any_held(streams, &InFlight::of(flights), bounds.spare) {
+    let ends = ends_of(flights);
+    if is_any_held(streams, &InFlight::with(flights, &ends), bounds.spare) {
         Some(notice)
     } else {
         None

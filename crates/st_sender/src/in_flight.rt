@@ -3,7 +3,7 @@
 ghost use Rattle.std.specs.Prelude.{◌≡◌, ◌<◌, ◌^◌};
 ghost use Rattle.st_sender.specs.Flights.{end_of, highest_end, flying_end};
 ghost use Rattle.st_sender.specs.Shown.{shown, kept};
-ghost use Rattle.st_sender.specs.InFlight.{AreSmall, IsRaised};
+ghost use Rattle.st_sender.specs.InFlight.{AreEnds, AreSmall, IsRaised};
 
 use crate::load::{Flight, SentFrame, flights_end};
 use std::alloc::Allocator;
@@ -42,6 +42,17 @@ impl<A: Allocator + Copy> Flight<A> {
     }
 }
 
+/// The highest end of each stream's data in these packets, by the stream's number. Each packet is visited once.
+pub fn ends_of<A: Allocator + Copy>(flights: &[Flight<A>]) -> [u128; 65]
+    ensures { AreEnds flights.now result }
+{
+    let mut ends = [0; 65];
+    for flight in flights {
+        flight.raise(&mut ends);
+    }
+    ends
+}
+
 /// The packets in flight, with the highest end of each stream's data in them.
 #[derive(Drop)]
 pub struct InFlight<'f, A: Allocator + Copy> {
@@ -62,15 +73,15 @@ impl<'f, A: Allocator + Copy> Model for InFlight<'f, A> {
 }
 
 impl<'f, A: Allocator + Copy> InFlight<'f, A> {
-    /// The same packets. Each is visited once.
-    pub fn of(flights: &'f [Flight<A>]) -> InFlight<'f, A>
+    /// The same packets, of which these are the ends.
+    pub fn with(flights: &'f [Flight<A>], ends: &[u128; 65]) -> InFlight<'f, A>
+        requires { AreEnds flights.now ends.now }
         ensures { result ≡ flights.now }
     {
-        let mut ends = [0; 65];
-        for flight in flights {
-            flight.raise(&mut ends);
+        InFlight {
+            flights,
+            ends: *ends,
         }
-        InFlight { flights, ends }
     }
 
     /// The highest end of the stream's data: 0 if it has none in flight.

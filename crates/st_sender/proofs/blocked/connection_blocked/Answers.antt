@@ -8,7 +8,7 @@ returns-then-is_any_held g c = (
   refl,
   record {
     first = sym c.was_blocked.ensures ∙ c.if-was_blocked.false;
-    waits = subst (λ (fs : List Flight). IsHeldAt c.args.streams.now fs c.args.bounds.spare) c.of.ensures (c.is_any_held.ensures.yes c.if-is_any_held.true);
+    waits = subst (λ (fs : List Flight). IsHeldAt c.args.streams.now fs c.args.bounds.spare) c.with.ensures (c.is_any_held.ensures.yes c.if-is_any_held.true);
     short = omega (arith, c.notice_size.ensures, c.if-notice_size-bounds.false);
   },
 )
@@ -17,7 +17,7 @@ pub returns-else-is_any_held : goal.returns-else-is_any_held
 returns-else-is_any_held g c = λ d.
     let w = d.waits in
     let h = w.held in
-    let none = subst (λ (fs : List Flight). NoneHeld c.args.streams.now fs c.args.bounds.spare 65) c.of.ensures (c.is_any_held.ensures.no c.if-is_any_held.false) in
+    let none = subst (λ (fs : List Flight). NoneHeld c.args.streams.now fs c.args.bounds.spare 65) c.with.ensures (c.is_any_held.ensures.no c.if-is_any_held.false) in
     let low = none w.stream w.lane w.is_own w.is_open h.0 h.1 h.2 in
     absurd (omega (arith, low, h.3))
 

@@ -1,6 +1,4 @@
-use Rattle.std.proofs.Common.{◌≡◌, ◌<◌, List, max, arith, subst, sym, ap, ◌∙◌}
-use Rattle.st_sender.specs.Sending.{Flight}
-use Rattle.st_sender.specs.Flights.{flying_end}
+use Rattle.std.proofs.Common.{◌≡◌, ◌<◌, arith, subst, sym, ap, ◌∙◌}
 use Rattle.st_sender.specs.Allowed.{end_in}
 use Rattle.st_sender.proofs.Totals.{found_at}
 use Rattle.st_sender.proofs.Sums.{ends_next, ends_done}
@@ -17,8 +15,7 @@ loop-number-preserved g c =
     let here = found_at lanes number c.index-streams-number.result (subst (λ n. number < n) (sym c.requires) c.loop-number-test.true) c.index-streams-number.is in
     elim c.match-streams-number.branch [
       | in-Some w ↦ (let v = ap (λ x. end_in flights number x) (here ∙ w.in-Some.is) in
-          let end = subst (λ (fs : List Flight). w.sent_end-total.result ≡ max w.in-Some.stream.out.acked_end (flying_end number fs)) c.of-flying.ensures w.sent_end-total.ensures.end in
-          (omega (arith, v, next, was, w.total-is, end), omega (arith, w.total-is, w.sent_end-total.ensures.small, c.loop-number.invariant.1)))
+          (omega (arith, v, next, was, w.total-is, w.sent_end-total.ensures.end), omega (arith, w.total-is, w.sent_end-total.ensures.small, c.loop-number.invariant.1)))
       | in-None w ↦ (let v = ap (λ x. end_in flights number x) (here ∙ w.in-None.is) in
           (omega (arith, v, next, was, w.total-is), omega (arith, w.total-is, c.loop-number.invariant.1)))
     ]

@@ -1,6 +1,6 @@
 use Rattle.std.proofs.Common.{ℕ, ◌≡◌, ◌<◌, ◌^◌, zero, suc, refl, max, ap, subst, sym, slice_index, replicate, arith, ◌∙◌}
 use Rattle.st_sender.specs.Flights.{flying_end}
-use Rattle.st_sender.proofs.in_flight.InFlight.of.Goals as goal
+use Rattle.st_sender.proofs.in_flight.ends_of.Goals as goal
 
 zero_at : (n k : ℕ) → slice_index (replicate n 0) k ≡ 0
 zero_at zero k = refl

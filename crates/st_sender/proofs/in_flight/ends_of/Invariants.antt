@@ -1,7 +1,7 @@
 use Rattle.std.proofs.Common.{ℕ, ◌≡◌, ◌<◌, max, drop, slice_index}
 use Rattle.st_sender.specs.Flights.{flying_end}
 use Rattle.st_sender.specs.InFlight.{AreSmall}
-use Rattle.st_sender.proofs.in_flight.InFlight.of.Given as goal
+use Rattle.st_sender.proofs.in_flight.ends_of.Given as goal
 
 abbrev pub invariant-loop-flight : goal.invariant-loop-flight
 invariant-loop-flight g l =
