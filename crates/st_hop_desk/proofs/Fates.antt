@@ -1,5 +1,5 @@
 -- What answers a Prepare, by the fate of what it books.
-use Rattle.std.proofs.Common.{IfOk, MatchOption, ap, ◌∙◌, ◌≡◌, ℕ, ℤ, Bool, true, false, not, ◌&&◌, List, [], Option, None, Some, Result, Ok, Err, nat_eq, if◌then◌else◌, refl, subst, arith}
+use Rattle.std.proofs.Common.{IfOk, MatchOption, inl, inr, ap, ◌∙◌, ◌≡◌, ℕ, ℤ, Bool, true, false, not, ◌&&◌, List, [], Option, None, Some, Result, Ok, Err, nat_eq, if◌then◌else◌, refl, subst, arith}
 use Rattle.std.proofs.lemmas.Bool.Decides.{nat_tests}
 use Rattle.std.specs.Cmp.{signed_Decides}
 use Rattle.std.proofs.lemmas.Slice.Eq.{bytes_eq-Decides}
@@ -15,7 +15,8 @@ use Rattle.st_hop.specs.declared.refusal.Refusal.{Refusal}
 use Rattle.st_hop.specs.declared.route.NextHop.{NextHop}
 use Rattle.st_hop.specs.declared.ticket.Open.{Open}
 use Rattle.st_links.specs.declared.booking.Booking.{Booking}
-use Rattle.st_hop_desk.specs.Serving.{AnswersBy, IsOf, IsTokenOf}
+use Rattle.st_hop.specs.Lawful.{IsLawful}
+use Rattle.st_hop_desk.specs.Serving.{AnswersBy, Around, EndsAs, IsAnswered, IsOf, IsServed, IsSettlement, IsT00, IsTokenOf, IsVerdict}
 use Rattle.st_hop_desk.specs.declared.stored.Fate.{Fate}
 use Rattle.st_hop_desk.specs.declared.stored.Fate.TheVariants.{Stored, Refused, Unknown}
 use Rattle.st_links.specs.declared.booking.Proof.{Proof}
@@ -88,3 +89,43 @@ settled_by (Some (Stored b)) (Some token) t outcome now answer asked is same =
 settled_by (Some Refused) (Some b) t outcome now answer asked is same = absurd is
 settled_by (Some Refused) None t outcome now answer asked is same = same ∙ held_back t outcome now
 settled_by (Some Unknown) token t outcome now answer asked is same = absurd is
+
+pub verdict_of : (h k : Hop) (account from : ℕ) (bytes : List ℕ) (now : ℤ) (v : Arrival) → IsLawful h → from ≡ account → arrived h from bytes now ≡ (v, k) → IsVerdict account bytes now v
+verdict_of h k account from bytes now v lawful same e = subst (λ a. IsVerdict a bytes now v) same (record { before = h; after = k; lawful = lawful; given = e })
+
+counts : (outcome : Option (List ℕ)) (books stored : Bool) → stored ≡ true → (if books && not stored then None else outcome) ≡ outcome
+counts outcome true true e = refl
+counts outcome false true e = refl
+counts outcome books false e = absurd (cc)
+
+unasked : (outcome : Option (List ℕ)) (books : Bool) → books ≡ false → (if books && not false then None else outcome) ≡ outcome
+unasked outcome true e = absurd (cc)
+unasked outcome false e = refl
+
+lost : (outcome : Option (List ℕ)) (books : Bool) → books ≡ true → (if books && not false then None else outcome) ≡ None
+lost outcome true e = refl
+lost outcome false e = absurd (cc)
+
+-- which outcome settled the ticket, by the fate of what it books
+pub ended_by : (fate : Option Fate) (token : Option Booking) (t : Open) (outcome : Option (List ℕ)) (now : ℤ) (answer : List ℕ)
+    → MatchOption fate (is_booked t outcome now ≡ false) (λ f. (is_booked t outcome now ≡ true) × IsFateOf (booking_of t outcome now) f) → IsTokenOf fate token
+    → IsSettlement t (counted t outcome now token) now answer → EndsAs t outcome now fate (Some answer)
+ended_by None (Some b) t outcome now answer asked is s = absurd is
+ended_by None None t outcome now answer asked is s = inl (subst (λ o. IsSettlement t o now answer) (unasked outcome (is_booked t outcome now) asked) s)
+ended_by (Some (Stored b)) None t outcome now answer asked is s = absurd is
+ended_by (Some (Stored b)) (Some token) t outcome now answer asked is s =
+    let own : is_stored t outcome now (Some token) ≡ true = ap (λ x. is_same x (booking_of t outcome now)) (is ∙ asked.1) ∙ same_own (booking_of t outcome now) in
+    subst (λ o. IsSettlement t o now answer) (counts outcome (is_booked t outcome now) (is_stored t outcome now (Some token)) own) s
+ended_by (Some Refused) (Some b) t outcome now answer asked is s = absurd is
+ended_by (Some Refused) None t outcome now answer asked is s = inl (subst (λ o. IsSettlement t o now answer) (lost outcome (is_booked t outcome now) asked.0) s)
+ended_by (Some Unknown) token t outcome now answer asked is s = absurd is
+
+pub heard : {T B K : Type 0} (exchanges : T → ℕ → List ℕ → ℤ → Option (List ℕ) → T → Type 0) (stores : B → Booking → Fate → B → Type 0) (reads : K → ℤ → K → Type 0)
+    (account from : ℕ) (bytes : List ℕ) (arrival : ℤ) (old new : Around T B K) (later : K) (v : Arrival) (answer : Option (List ℕ)) → from ≡ account → reads old.clock arrival later → IsVerdict account bytes arrival v
+    → IsAnswered exchanges stores reads from v (record old { clock = later }) new answer → IsServed exchanges stores reads account bytes old new answer
+heard exchanges stores reads account from bytes arrival old new later v answer same read given answered =
+    record { arrival = arrival; later = later; read = read; served = inl (record { verdict = v; given = given; answered = subst (λ a. IsAnswered exchanges stores reads a v (record old { clock = later }) new answer) same answered }) }
+
+pub unheard : {T B K : Type 0} (exchanges : T → ℕ → List ℕ → ℤ → Option (List ℕ) → T → Type 0) (stores : B → Booking → Fate → B → Type 0) (reads : K → ℤ → K → Type 0)
+    (account : ℕ) (bytes : List ℕ) (arrival : ℤ) (old : Around T B K) (later : K) (answer : List ℕ) → reads old.clock arrival later → IsT00 answer → IsServed exchanges stores reads account bytes old (record old { clock = later }) (Some answer)
+unheard exchanges stores reads account bytes arrival old later answer read text = record { arrival = arrival; later = later; read = read; served = inr (refl, text) }

@@ -59,3 +59,9 @@ abbrev pub IsFateOf : Booking → Fate → Type 0
 IsFateOf b (Stored token) = token ≡ b
 IsFateOf b Refused = ⊤
 IsFateOf b Unknown = ⊤
+
+-- a fate as that of this booking: of the token of another one nothing is known
+abbrev pub own_fate : Fate → Booking → Fate
+own_fate (Stored token) b = if is_same token b then Stored token else Unknown
+own_fate Refused b = Refused
+own_fate Unknown b = Unknown

@@ -3,6 +3,7 @@
 ghost use Rattle.std.specs.Prelude.{◌≡◌, ◌+◌, ◌<◌, true, Some, length, nat_lt, sum, vec_len, OnOk, OnErr, IfOk, IfErr, IsErrOf, IsOkUnless, MatchBool};
 ghost use Rattle.std.specs.List.{sum_by};
 ghost use Rattle.st_ilp.specs.Reading.{is_fulfill_text};
+ghost use Rattle.st_hop.specs.Lawful.{IsLawful};
 ghost use Rattle.st_hop.specs.Tickets.{IsAmong};
 ghost use Rattle.st_hop.specs.Arriving.{arrived};
 ghost use Rattle.st_hop.specs.Refusals.{t00_text};
@@ -156,6 +157,7 @@ impl<C: Ledger, D: Ledger, A: Allocator + Copy> HopDesk<C, D, A> {
         now: Moment,
     ) -> Result<Arrived<A>, HopError>
         ensures account { IfOk result (λ a. a.account ≡ account) }
+        ensures lawful { IsLawful self.old.hop }
         ensures arrived { IfOk result (λ a. arrived self.old.hop a.account bytes.now now ≡ (verdict_seen a.verdict, self.new.hop)) }
         ensures ready { IfOk result (λ a. IsReady self.new.hop a.verdict) }
         ensures across { IfOk result (λ a. GoesAcross self.old.hop account a.verdict) }
@@ -163,6 +165,7 @@ impl<C: Ledger, D: Ledger, A: Allocator + Copy> HopDesk<C, D, A> {
         ensures refused { MatchBool (nat_lt account (length self.old.hop.accounts)) (IsOkUnless result refusals.NoMemory) (IsErrOf result refusals.NoAccount) }
         ensures unchanged { OnErr result (self.new ≡ self.old) }
     {
+        self.hop.is_lawful();
         match self.hop.arrive(account, bytes, now) {
             Ok(verdict) => Ok(Arrived { account, verdict }),
             Err(error) => Err(error),
@@ -186,6 +189,7 @@ impl<C: Ledger, D: Ledger, A: Allocator + Copy> HopDesk<C, D, A> {
         now: Moment,
         token: Option<Booked>,
     ) -> Result<Vec<u8, A>, DeskError>
+        ensures lawful { IsLawful self.old.hop }
         ensures settled { IfOk result (λ v. IsAmong self.old.hop.tickets ticket × (settled self.old.hop ticket (counted ticket (outcome_seen outcome) now token) now ≡ (v.items, self.new.hop))) }
         ensures claims { OnOk result (shares.new.claims ≡ shares.old.claims + claim_of ticket (counted ticket (outcome_seen outcome) now token) now) }
         ensures dues { OnOk result (shares.new.dues ≡ shares.old.dues + due_of ticket (counted ticket (outcome_seen outcome) now token) now) }
@@ -194,6 +198,7 @@ impl<C: Ledger, D: Ledger, A: Allocator + Copy> HopDesk<C, D, A> {
         ensures rest { self.new ≡ record self.old { hop = self.new.hop } }
         ensures stranger { IfErr result (λ e. (e ≡ Stranger) × (¬ (IsAmong self.old.hop.tickets ticket)) × (self.new ≡ self.old) × (shares.new ≡ shares.old)) }
     {
+        self.hop.is_lawful();
         if !self.hop.is_open(&ticket) {
             ticket.abandon();
             return Err(DeskError::Stranger);
@@ -265,9 +270,11 @@ impl<C: Ledger, D: Ledger, A: Allocator + Copy> HopDesk<C, D, A> {
 
     /// A copy of `t00`. Fails with `NoMemory` if memory is refused.
     pub(crate) fn copy_of_t00(&self) -> Result<Vec<u8, A>, DeskError>
+        ensures lawful { IsLawful self.now.hop }
         ensures copied { IfOk result (λ v. v.items ≡ t00_text self.now.hop.own) }
         ensures only_memory { IsOkUnless result NoMemory }
     {
+        self.hop.is_lawful();
         Ok(Vec::from_slice(self.alloc, self.t00())?)
     }
 }

@@ -19,4 +19,4 @@ pub use st_hop::{HopError, HopState, Ticket};
 pub use st_ilp::Moment;
 pub use st_links::{Booked, Clock, Links, Outcome};
 pub use stored::{Books, Fate, NoBooks, booking_of};
-pub use till::{AtTill, Till, deposit, refused_at};
+pub use till::{Till, deposit, refused_at};

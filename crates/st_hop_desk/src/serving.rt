@@ -1,13 +1,13 @@
 //! How one thread serves a hop.
 
-ghost use Rattle.std.specs.Prelude.{◌≡◌, ◌≤ℤ◌, ◌<ℤ◌, pos, true, false, None, Some, IfOk, IfSome, MatchOption};
+ghost use Rattle.std.specs.Prelude.{◌≡◌, ◌≤ℤ◌, ◌<ℤ◌, pos, true, false, None, Some, IfOk, IfSome, MatchOption, OnErr};
 ghost use Rattle.st_ilp.specs.Reading.{is_fulfill_text};
 ghost use Rattle.st_links.specs.Outcomes.{outcome_seen};
 ghost use Rattle.st_hop.specs.Seen.{verdict_seen};
 ghost use Rattle.st_hop.specs.Settling.{is_booked};
 ghost use Rattle.st_links.specs.Answers.{told};
 ghost use Rattle.st_hop_desk.specs.Deadlines.{deadline};
-ghost use Rattle.st_hop_desk.specs.Serving.{AnswersBy, IsAnswered, IsOf, IsServed, IsTokenOf, IsUnfulfilled};
+ghost use Rattle.st_hop_desk.specs.Serving.{AnswersBy, EndsAs, IsAnswered, IsOf, IsServed, IsSettlement, IsStrange, IsT00, IsTokenOf, IsUnfulfilled, IsVerdict};
 ghost use Rattle.st_hop_desk.specs.declared.stored.Fate.TheVariants as fated;
 ghost use Rattle.st_hop_desk.specs.Stored as stored;
 
@@ -32,6 +32,7 @@ fn arrive<C: Ledger, D: Ledger, A: Allocator + Copy>(
 ) -> Result<Arrived<A>, HopError>
     ensures account { IfOk result (λ a. a.account ≡ account) }
     ensures of { IfOk result (λ a. IsOf account (verdict_seen a.verdict)) }
+    ensures verdict { IfOk result (λ a. IsVerdict account bytes.now now (verdict_seen a.verdict)) }
 {
     desk.lock(rt).arrive(account, bytes, now)
 }
@@ -45,7 +46,9 @@ fn settle<C: Ledger, D: Ledger, A: Allocator + Copy>(
     now: Moment,
     token: Option<Booked>,
 ) -> Result<Vec<u8, A>, DeskError>
-    ensures { IfOk result (λ v. is_fulfill_text v.items ≡ is_booked ticket (stored.counted ticket (outcome_seen outcome) now token) now) }
+    ensures settled { IfOk result (λ v. IsSettlement ticket (stored.counted ticket (outcome_seen outcome) now token) now v.items) }
+    ensures strange { OnErr result (IsStrange ticket) }
+    ensures fulfills { IfOk result (λ v. is_fulfill_text v.items ≡ is_booked ticket (stored.counted ticket (outcome_seen outcome) now token) now) }
 {
     let mut shares = shares.lock(rt);
     desk.lock(rt)
@@ -56,7 +59,8 @@ fn t00<C: Ledger, D: Ledger, A: Allocator + Copy>(
     rt: &impl Wait,
     desk: &Mutex<HopDesk<C, D, A>>,
 ) -> Result<Vec<u8, A>, DeskError>
-    ensures { IfOk result (λ v. is_fulfill_text v.items ≡ false) }
+    ensures text { IfOk result (λ v. IsT00 v.items) }
+    ensures fails { IfOk result (λ v. is_fulfill_text v.items ≡ false) }
 {
     desk.lock(rt).copy_of_t00()
 }
@@ -130,7 +134,8 @@ fn end<C: Ledger, D: Ledger, A: Allocator + Copy>(
 ) -> Result<Option<Vec<u8, A>>, DeskError>
     requires { MatchOption fate (is_booked ticket (outcome_seen outcome) now ≡ false)
         (λ fate. (is_booked ticket (outcome_seen outcome) now ≡ true) × stored.IsFateOf (stored.booking_of ticket (outcome_seen outcome) now) fate) }
-    ensures { IfOk result (λ answer. MatchOption fate (IsUnfulfilled (told answer)) (λ fate. AnswersBy fate (told answer))) }
+    ensures fulfills { IfOk result (λ answer. MatchOption fate (IsUnfulfilled (told answer)) (λ fate. AnswersBy fate (told answer))) }
+    ensures ends { IfOk result (λ answer. EndsAs ticket (outcome_seen outcome) now fate (told answer)) }
 {
     let Some(token) = token_of(fate) else {
         ticket.abandon();
@@ -157,7 +162,7 @@ fn answer_to<C: Ledger, D: Ledger, A: Allocator + Copy, T: Links<A>, B: Books, K
     now: Moment,
 ) -> Result<Option<Vec<u8, A>>, DeskError>
     requires { IsOf _account (verdict_seen verdict) }
-    ensures { IfOk result (λ answer. IsAnswered T.exchanges B.stores K.reads _account
+    ensures { IfOk result (λ answer. IsAnswered T.exchanges B.stores K.reads _account (verdict_seen verdict)
         (record { links = links.old; books = books.old; clock = clock.old }) (record { links = links.new; books = books.new; clock = clock.new }) (told answer)) }
 {
     match verdict {
@@ -197,7 +202,7 @@ pub fn serve<C: Ledger, D: Ledger, A: Allocator + Copy, T: Links<A>, B: Books, K
     clock: &mut K,
 ) -> Result<Served<A>, DeskError>
     ensures account { IfOk result (λ s. s.account ≡ account) }
-    ensures served { IfOk result (λ s. IsServed T.exchanges B.stores K.reads account
+    ensures served { IfOk result (λ s. IsServed T.exchanges B.stores K.reads account bytes.now
         (record { links = links.old; books = books.old; clock = clock.old }) (record { links = links.new; books = books.new; clock = clock.new }) (told s.answer)) }
 {
     let now = clock.now();

@@ -2,9 +2,10 @@
 
 ghost use Rattle.std.specs.Prelude.{◌≡◌, ◌≢◌, ℕ, true, false, None, Some, length, map};
 ghost use Rattle.st_hop_desk.specs.Stored.{IsFateOf};
+ghost use Rattle.st_hop_desk.specs.Stored as stored;
 
 use crate::board::{Batch, Board, Ended, Turn};
-use crate::stored::{Books, Fate, is_same};
+use crate::stored::{Fate, is_same};
 use st_links::{Booking, Keeper, commit_all};
 use std::alloc::{AllocError, Allocator};
 use std::sync::{Condvar, Mutex, Wait};
@@ -151,7 +152,8 @@ fn finish<K: Keeper, A: Allocator + Copy>(rt: &impl Wait, till: &Till<K, A>, end
 
 /// The fate, if it is that of this booking: of the token of another one nothing is known.
 fn own_fate(fate: Fate, booking: Booking) -> Fate
-    ensures { IsFateOf booking result }
+    ensures own { IsFateOf booking result }
+    ensures told { result ≡ stored.own_fate fate booking }
 {
     match fate {
         Fate::Stored(token) if is_same(token.booking(), booking) => Fate::Stored(token),
@@ -186,19 +188,4 @@ pub fn deposit<K: Keeper, A: Allocator + Copy, R: Wait>(
 /// The first number with which the books of a till refused a booking. After it the process has to end.
 pub fn refused_at<K: Keeper, A: Allocator + Copy>(rt: &impl Wait, till: &Till<K, A>) -> Option<u8> {
     till.drawer.lock(rt).refused()
-}
-
-/// A thread's way to the books of a till.
-#[derive(Drop)]
-pub struct AtTill<'a, K: Keeper, A: Allocator, R: Wait> {
-    /// What lets the thread wait.
-    pub rt: &'a R,
-    /// The till.
-    pub till: &'a Till<K, A>,
-}
-
-impl<K: Keeper, A: Allocator + Copy, R: Wait> Books for AtTill<'_, K, A, R> {
-    fn store(&mut self, booking: Booking) -> Fate {
-        deposit(self.rt, self.till, booking)
-    }
 }
