@@ -15,6 +15,7 @@ mod pace;
 mod progress;
 mod queue;
 mod quote;
+mod starts;
 mod text;
 mod waiting;
 
