@@ -1,5 +1,6 @@
 pub mod Errors
 pub mod Lives
+pub mod Laws
 pub mod Names
 pub mod Placed
 pub mod Placing

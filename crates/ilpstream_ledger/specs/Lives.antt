@@ -147,7 +147,13 @@ adjusted side name (c ∷ cs) = adjusted_in side name c + adjusted side name cs
 -- what a fulfilled Prepare books, its accounts at their places in the books; none is that of no account,
 -- and its proof is what this gives
 abbrev pub booking_at : (places : List ℕ) (none : ℕ) (proves : Open → Option Proof) → Open → Booking
-booking_at places none proves t = record { payer = slice_index_or places t.incoming none; claim = t.amount_in; payee = slice_index_or places t.outgoing none; due = t.amount_out; proof = proves t }
+booking_at places none proves t = record {
+  payer = slice_index_or places t.incoming none;
+  claim = t.amount_in;
+  payee = slice_index_or places t.outgoing none;
+  due = t.amount_out;
+  proof = proves t;
+}
 
 -- the amounts of an account that earned these
 abbrev pub gained : Amounts → List Open → Option ℕ → Amounts

@@ -34,4 +34,5 @@ pub record HasUnlisted (names : Names) (all : List Amounts) (table : Names) : Ty
 
 -- each account at which something is owed is one of the table's
 abbrev pub AreListed : Names → List Amounts → (table : Names) → Type 0
-AreListed names all table = (at : ℕ) (name : List ℕ) → slice_get names at ≡ Some name → amounts_at all at ≢ nothing → (line : ℕ) × (slice_get table line ≡ Some name)
+AreListed names all table =
+    (at : ℕ) (name : List ℕ) → slice_get names at ≡ Some name → amounts_at all at ≢ nothing → (line : ℕ) × (slice_get table line ≡ Some name)

@@ -4,15 +4,14 @@ use Rattle.sqlite_trees.specs.View.{IsClean}
 use Rattle.sqlite_trees.specs.declared.error.StoreError.{StoreError}
 use Rattle.sqlite_trees.specs.declared.store.Store.{Ghosts}
 use Rattle.st_hop_books.specs.declared.balance.Entry.{Entry}
-use Rattle.st_hop_books.specs.declared.balance.Kind.{Kind}
 use Rattle.st_hop_books.specs.declared.balance.Kind.TheVariants.{Paid}
 use Rattle.st_hop_books.specs.declared.balance.Side.{Side}
 use Rattle.st_hop_books.specs.declared.error.BooksError.{BooksError}
 use Rattle.st_hop_books.specs.declared.error.BooksError.TheVariants as books
 use Rattle.st_hop_books.specs.Errors as errors
-use Rattle.st_hop_books.specs.Payments.{Finds, IsCovered, entry_text, name_at, paying}
+use Rattle.st_hop_books.specs.Payments.{Finds, IsCovered, name_at, paying}
 use Rattle.st_hop_books.specs.Standing.{Kept, Tells, trail_in, sums_of}
-use Rattle.st_hop_books.specs.Commits.{IsBecause, Makes, Rereads, after_payment, payment_excuses}
+use Rattle.st_hop_books.specs.Commits.{IsBecause, Makes, Rereads, after_payment, entering_excuses}
 use Rattle.ilpstream_ledger.specs.declared.error.LedgerError.{LedgerError}
 use Rattle.ilpstream_ledger.specs.declared.error.LedgerError.TheVariants.{Books, Reused}
 use Rattle.ilpstream_ledger.specs.Names.{IsNone}
@@ -33,7 +32,7 @@ abbrev pub WhyUnsettled : {S : Type 0} → Ghosts S → (old : Kept S) → (name
 WhyUnsettled g old name side amount moment new e =
     ((e ≡ Books books.NoAccount) × IsNone old.names name × (new ≡ old))
     ⊎ ((at : ℕ) × (x : BooksError) × (slice_get old.names at ≡ Some name) × (e ≡ Books x)
-    × IsBecause g old new (payment_excuses (g.view old.store) old.names old.amounts (paying Paid at side amount moment) (entry_text Paid side [])) x)
+    × IsBecause g old new (entering_excuses g old (paying Paid at side amount moment) []) x)
 
 -- ---- once under a reference
 
@@ -45,7 +44,8 @@ pub record WasThere {S : Type 0} (g : Ghosts S) (old : Kept S) (name : List ℕ)
   pub same : Rereads g old new
 
 -- it has none, the books were only read until then, and the entry was made with it
-pub record IsEntered {S : Type 0} (g : Ghosts S) (old : Kept S) (name : List ℕ) (side : Side) (entry : Entry) (moment : ℕ) (reference : List ℕ) (new : Kept S) : Type 0 where
+pub record IsEntered {S : Type 0} (g : Ghosts S) (old : Kept S) (name : List ℕ) (side : Side) (entry : Entry) (moment : ℕ)
+    (reference : List ℕ) (new : Kept S) : Type 0 where
   pub at : ℕ
   pub named : slice_get old.names at ≡ Some name
   pub read : Kept S
@@ -54,16 +54,18 @@ pub record IsEntered {S : Type 0} (g : Ghosts S) (old : Kept S) (name : List ℕ
   pub covered : IsCovered read.amounts (paying entry.kind at side entry.amount moment)
   pub made : Makes g read (after_payment g read (paying entry.kind at side entry.amount moment) reference) new
 
-abbrev pub IsOnce : {S : Type 0} → Ghosts S → (repeated : Bool) → (old : Kept S) → (name : List ℕ) → Side → Entry → (moment : ℕ) → (reference : List ℕ) → (new : Kept S) → Type 0
+abbrev pub IsOnce : {S : Type 0} → Ghosts S → (repeated : Bool) → (old : Kept S) → (name : List ℕ) → Side → Entry → (moment : ℕ)
+    → (reference : List ℕ) → (new : Kept S) → Type 0
 IsOnce g true old name side entry moment reference new = WasThere g old name side entry reference new
 IsOnce g false old name side entry moment reference new = IsEntered g old name side entry moment reference new
 
 -- Why nothing was entered: no account of the books has this name; another entry has the reference; the lines were not read; or what the
 -- books say of the payment.
-abbrev pub WhyNotOnce : {S : Type 0} → Ghosts S → (old : Kept S) → (name : List ℕ) → Side → Entry → (moment : ℕ) → (reference : List ℕ) → (new : Kept S) → LedgerError → Type 0
+abbrev pub WhyNotOnce : {S : Type 0} → Ghosts S → (old : Kept S) → (name : List ℕ) → Side → Entry → (moment : ℕ)
+    → (reference : List ℕ) → (new : Kept S) → LedgerError → Type 0
 WhyNotOnce {S} g old name side entry moment reference new e =
     ((e ≡ Books books.NoAccount) × IsNone old.names name × (new ≡ old))
     ⊎ ((e ≡ Reused) × ((other : Entry) × (other ≢ entry) × WasThere g old name side other reference new))
     ⊎ ((why : StoreError) × (e ≡ Books (errors.told why)) × Rereads g old new)
     ⊎ ((at : ℕ) × (x : BooksError) × (read : Kept S) × (slice_get old.names at ≡ Some name) × (e ≡ Books x) × Rereads g old read
-    × IsBecause g read new (payment_excuses (g.view read.store) read.names read.amounts (paying entry.kind at side entry.amount moment) (entry_text entry.kind side reference)) x)
+    × IsBecause g read new (entering_excuses g read (paying entry.kind at side entry.amount moment) reference) x)

@@ -28,7 +28,8 @@ fn take_reject<A: Allocator + Copy>(
     code: [u8; 3],
     payload: &[u8],
 )
-    ensures { (p : sender.Flight) → flight_at outbox.old.flights sequence ≡ Some p → outbox.new ≡ after_failed outbox.old p (answers.failure_of code payload.now) }
+    ensures { (p : sender.Flight) → flight_at outbox.old.flights sequence ≡ Some p
+        → outbox.new ≡ after_failed outbox.old p (answers.failure_of code payload.now) }
 {
     if code == *b"F08" {
         outbox.too_large(sequence, amounts_in(payload));
@@ -45,7 +46,8 @@ fn take_answer<A: Allocator + Copy>(
     flight: Open,
     bytes: &mut [u8],
 ) -> bool
-    ensures left { (p : sender.Flight) → flight_at outbox.old.flights flight.sequence ≡ Some p → outbox.new ≡ answers.answered_by keys.now outbox.old flight p (answer_at bytes.old) }
+    ensures left { (p : sender.Flight) → flight_at outbox.old.flights flight.sequence ≡ Some p
+        → outbox.new ≡ answers.answered_by keys.now outbox.old flight p (answer_at bytes.old) }
     ensures taken { result ≡ answers.pays_by flight (answer_at bytes.old) }
     ensures noted { last.new ≡ option_or (answers.failed_by flight (answer_at bytes.old)) last.old }
 {

@@ -16,6 +16,7 @@ ghost use Rattle.st_end.specs.Laws.{IsSealed, HasReply};
 /// and the moment.
 pub fn replies_are_sealed()
     ensures short { (receiving : Receiving) (frames : List Known) → length (frames_text (reply_frames receiving frames)) ≤ 3147 }
-    ensures each { (keys : DerivedKeys) (kind : ℕ) (prepare : PreparePacket) (packet : Packet) (receiving : Receiving) → IsSealed keys kind prepare packet receiving }
+    ensures each { (keys : DerivedKeys) (kind : ℕ) (prepare : PreparePacket) (packet : Packet) (receiving : Receiving)
+        → IsSealed keys kind prepare packet receiving }
     ensures answers { (e : state.EndState) (bytes : List ℕ) (now : ℤ) → HasReply e (prepare_in bytes) (verdict e bytes now) }
 {}

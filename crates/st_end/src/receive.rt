@@ -56,7 +56,8 @@ fn fulfill_reply<'f, A: Allocator + Copy>(
     requires long { 12 ≤ length prepare.now.payload.now }
     requires plan { IsPlanFor intake.now (packet_of packet.now) plan.now }
     ensures only_memory { IsOkUnless result EndError.NoMemory }
-    ensures frames { IfOk result (λ r. map seen r.frames.items ≡ limits.reply_frames (effect intake.now.state (packet_of packet.now) plan.now.amount) (frames_of (packet_of packet.now))) }
+    ensures frames { IfOk result (λ r. map seen r.frames.items
+        ≡ limits.reply_frames (effect intake.now.state (packet_of packet.now) plan.now.amount) (frames_of (packet_of packet.now))) }
     ensures text { IfOk result (λ r. r.bytes.items ≡ answer_text (Fulfilled (fulfillment keys.now prepare.now.payload.now) (receiving.reply_payload keys.now 13 (prepare_seen prepare.now) (packet_of packet.now) (effect intake.now.state (packet_of packet.now) plan.now.amount)))) }
     ensures peer { IfOk result (λ r. (peer : List ℕ) → text_or peer r.peer ≡ receiving.new_peer peer (frames_of (packet_of packet.now))) }
 {
@@ -161,7 +162,8 @@ impl<A: Allocator + Copy> EndState<A> {
     ) -> Result<Received<A>, EndError>
         requires { 12 ≤ length prepare.now.payload.now }
         ensures only_memory { IsOkUnless result EndError.NoMemory }
-        ensures answers { IfOk result (λ r. received_as self.old (prepare_seen prepare.now) (Rejects (packet_of packet.now) reason) ≡ (received_seen r, self.new)) }
+        ensures answers { IfOk result (λ r. received_as self.old (prepare_seen prepare.now) (Rejects (packet_of packet.now) reason)
+            ≡ (received_seen r, self.new)) }
         ensures unchanged { OnErr result (self.new ≡ self.old) }
     {
         let Ok(frames) = self.intake.reply_frames(packet, None) else {
@@ -254,7 +256,8 @@ impl<A: Allocator + Copy> EndState<A> {
     ) -> Result<Received<A>, EndError>
         requires { IsPayloadOf self.old.keys (prepare_seen prepare.now) payload.now }
         ensures only_memory { IsOkUnless result EndError.NoMemory }
-        ensures answers { IfOk result (λ r. received_as self.old (prepare_seen prepare.now) (verdict_on self.old now (Ok (prepare_seen prepare.now))) ≡ (received_seen r, self.new)) }
+        ensures answers { IfOk result (λ r. received_as self.old (prepare_seen prepare.now) (verdict_on self.old now (Ok (prepare_seen prepare.now)))
+            ≡ (received_seen r, self.new)) }
         ensures unchanged { OnErr result (self.new ≡ self.old) }
     {
         if !is_within(self.own.as_str(), prepare.destination) {

@@ -66,7 +66,8 @@ pub(crate) fn reply_payload<A: Allocator + Copy>(
     requires to_reject { kind ≤ 14 }
     requires told { (r : Receiving) × (map seen frames.now ≡ reply_frames r (frames_of (packet_of packet.now))) }
     ensures only_memory { IsOkUnless result EndError.NoMemory }
-    ensures sealed { (r : Receiving) → map seen frames.now ≡ reply_frames r (frames_of (packet_of packet.now)) → IfOk result (λ v. v.items ≡ receiving.reply_payload keys.now kind (prepare_seen prepare.now) (packet_of packet.now) r) }
+    ensures sealed { (r : Receiving) → map seen frames.now ≡ reply_frames r (frames_of (packet_of packet.now))
+        → IfOk result (λ v. v.items ≡ receiving.reply_payload keys.now kind (prepare_seen prepare.now) (packet_of packet.now) r) }
     ensures fits { IfOk result (λ v. is_data v.items ≡ true) }
 {
     payload_lengths();

@@ -17,7 +17,12 @@ use Rattle.st_hop_books.specs.Standing.{Kept, Sums, AreSums, sums_of, Tells, Lea
 use Rattle.st_hop_books.specs.Reasons.{Excuses, Because, HasBadName, HasBadPayment, HasBadProofs}
 
 abbrev pub after_bookings : {S : Type 0} → Ghosts S → Kept S → List Booking → Sums
-after_bookings g k bookings = record { starts = k.starts; names = k.names; amounts = booked k.amounts bookings; trail = with_bookings (trail_in (g.view k.store)) k.names bookings }
+after_bookings g k bookings = record {
+  starts = k.starts;
+  names = k.names;
+  amounts = booked k.amounts bookings;
+  trail = with_bookings (trail_in (g.view k.store)) k.names bookings;
+}
 
 abbrev pub after_name : {S : Type 0} → Ghosts S → Kept S → List ℕ → Sums
 after_name g k name = record { starts = k.starts; names = k.names ++ name ∷ []; amounts = k.amounts ++ nothing ∷ []; trail = trail_in (g.view k.store) }
@@ -26,7 +31,12 @@ abbrev pub after_start : {S : Type 0} → Ghosts S → Kept S → Sums
 after_start g k = record { starts = k.starts + 1; names = k.names; amounts = k.amounts; trail = trail_in (g.view k.store) }
 
 abbrev pub after_payment : {S : Type 0} → Ghosts S → Kept S → Payment → (reference : List ℕ) → Sums
-after_payment g k p reference = record { starts = k.starts; names = k.names; amounts = paid_off k.amounts p; trail = with_entry (trail_in (g.view k.store)) k.names p (entry_text p.kind p.side reference) }
+after_payment g k p reference = record {
+  starts = k.starts;
+  names = k.names;
+  amounts = paid_off k.amounts p;
+  trail = with_entry (trail_in (g.view k.store)) k.names p (entry_text p.kind p.side reference);
+}
 
 -- a crash at any moment since `old` leaves what it could leave then, or the books with the whole change
 abbrev pub BeforeOrAfter : {S : Type 0} → Ghosts S → Kept S → Sums → Kept S → Type 0
@@ -78,6 +88,14 @@ payment_excuses v names all p text = record {
   taken = ⊥;
   bad_name = HasBadName v names ⊎ HasBadPayment v names p text;
 }
+
+-- those of books that are to take these bookings
+abbrev pub bookings_excuses : {S : Type 0} → Ghosts S → Kept S → List Booking → Excuses
+bookings_excuses g k bookings = booking_excuses (g.view k.store) k.names k.amounts bookings
+
+-- those of books that are to take this payment
+abbrev pub entering_excuses : {S : Type 0} → Ghosts S → Kept S → Payment → (reference : List ℕ) → Excuses
+entering_excuses g k p reference = payment_excuses (g.view k.store) k.names k.amounts p (entry_text p.kind p.side reference)
 
 abbrev pub IsBecause : {S : Type 0} → Ghosts S → Kept S → Kept S → Excuses → BooksError → Type 0
 IsBecause g old new x e = IsClean (g.view new.store) → Because (g.view old.store) (MoreFaults (g.faults old.store) (g.faults new.store)) x e

@@ -81,7 +81,8 @@ pub record IsLast (numbers : List ℕ) (n : ℕ) : Type 0 where
 pub record LogContinues (page log : List ℕ) : Type 0 where
   pub numbers : List ℕ
   pub frames : AreFramesOf 4096 log numbers
-  pub follows : LacksFirstPage numbers ⊎ ((first : ℕ) × (last : ℕ) × IsFirst numbers first × IsLast numbers last × Continues page (page_in log first) (page_in log last))
+  pub follows : LacksFirstPage numbers
+      ⊎ ((first : ℕ) × (last : ℕ) × IsFirst numbers first × IsLast numbers last × Continues page (page_in log first) (page_in log last))
 
 -- no commit of the log has a first page
 pub record LogSaysNothing (log : List ℕ) : Type 0 where

@@ -17,7 +17,12 @@ proof_text = codes "CREATE TABLE fulfillment (id INTEGER PRIMARY KEY, name TEXT 
 -- a row: the id, NULL in the column of the key, the name of the account that owes the claim, the condition, the fulfillment, the claim
 -- and the moment
 abbrev pub proof_line : (id : ℕ) (name condition fulfillment : List ℕ) (amount : ℕ) (moment : ℤ) → Row
-proof_line id name condition fulfillment amount moment = Int (pos id) ∷ Null ∷ Text name ∷ Blob condition ∷ Blob fulfillment ∷ Int (pos amount) ∷ Int moment ∷ []
+proof_line id name condition fulfillment amount moment =
+    Int (pos id) ∷ Null ∷ Text name ∷ Blob condition ∷ Blob fulfillment ∷ Int (pos amount) ∷ Int moment ∷ []
+
+-- that of this proof
+abbrev pub line_of_proof : (id : ℕ) (name : List ℕ) (amount : ℕ) → Proof → Row
+line_of_proof id name amount p = proof_line id name p.condition p.fulfillment amount p.moment
 
 pub record IsProofLine (row : Row) : Type 0 where
   pub id : ℕ
@@ -36,6 +41,10 @@ abbrev pub last_id : List Row → ℕ
 last_id [] = 0
 last_id (row ∷ []) = count_of (column row 0)
 last_id (row ∷ next ∷ rows) = last_id (next ∷ rows)
+
+-- this row is added after proofs whose last id is this
+abbrev pub AddsProof : (old new : List Row) → (last : ℕ) → Row → Type 0
+AddsProof old new last row = AreProofs old → last_id old ≡ last → new ≡ old ++ row ∷ []
 
 -- what is kept of the proof of a booking's claim
 abbrev pub proof_row : (id : ℕ) → List (List ℕ) → Booking → Proof → Row

@@ -11,7 +11,8 @@ stamp_tree = 2
 
 -- the version of the tables, the identity that the books were made with, and the address of their connector
 abbrev pub stamp_text : (identity address : List ℕ) → List ℕ
-stamp_text identity address = codes "CREATE VIEW books AS SELECT 2 AS schema, '" ++ (identity ++ (codes "' AS identity, '" ++ (address ++ codes "' AS address")))
+stamp_text identity address =
+    codes "CREATE VIEW books AS SELECT 2 AS schema, '" ++ (identity ++ (codes "' AS identity, '" ++ (address ++ codes "' AS address")))
 
 -- the text says this address, and SQLite reads it as that of the view `books`
 pub record Stamps (address text : List ℕ) : Type 0 where
@@ -21,6 +22,12 @@ pub record Stamps (address text : List ℕ) : Type 0 where
 
 abbrev pub IsStampText : List ℕ → Type 0
 IsStampText text = (address : List ℕ) × Stamps address text
+
+-- a row of the list of objects with the number and the names of this view
+abbrev pub IsNamedRow : Row → Type 0
+IsNamedRow row =
+    (column row 0 ≡ Int (pos 3)) × (column row 1 ≡ Text (codes "view"))
+    × (column row 2 ≡ Text (codes "books")) × (column row 3 ≡ Text (codes "books"))
 
 -- a row of the list of objects that is this view's
 pub record IsStampRow (row : Row) : Type 0 where
@@ -41,4 +48,5 @@ pub record IsStamped (row : Row) : Type 0 where
 
 -- the view as it is made
 abbrev pub stamp_row : (text : List ℕ) → Row
-stamp_row text = Int (pos (stamp_tree + 1)) ∷ Text (codes "view") ∷ Text (codes "books") ∷ Text (codes "books") ∷ Text text ∷ Int (pos 3) ∷ Int (pos 0) ∷ []
+stamp_row text =
+    Int (pos (stamp_tree + 1)) ∷ Text (codes "view") ∷ Text (codes "books") ∷ Text (codes "books") ∷ Text text ∷ Int (pos 3) ∷ Int (pos 0) ∷ []

@@ -1,16 +1,19 @@
 -- What a store has of books, and what steps of a transaction do to it.
-use Rattle.std.specs.Prelude.{◌≡◌, ℕ, true, false, List, length, IsTrue}
-use Rattle.sqlite_trees.specs.Tree.{Trees}
+use Rattle.std.specs.Prelude.{◌≡◌, ◌⊎◌, ℕ, true, false, List, length, Result, IsTrue, IsOk, OnOk}
+use Rattle.sqlite_value.specs.Order.{Row}
+use Rattle.sqlite_trees.specs.Tree.{Trees, put_row}
 use Rattle.sqlite_trees.specs.Objects.{catalog_tree, version_tree, version_rows}
 use Rattle.sqlite_trees.specs.Sound.{is_sound_list}
-use Rattle.sqlite_trees.specs.View.{View, IsClean, KeepsSchema, OnlyWrites}
+use Rattle.sqlite_trees.specs.View.{View, IsClean, KeepsSchema, OnlyWrites, SetsTree}
 use Rattle.sqlite_trees.specs.declared.store.Store.{Ghosts}
 use Rattle.sqlite_trees.specs.declared.store.Shape.TheVariants.{Table}
 use Rattle.st_hop_books.specs.declared.balance.Amounts.{Amounts}
+use Rattle.st_hop_books.specs.declared.balance.Payment.{Payment}
 use Rattle.st_hop_books.specs.declared.balance.Tally.{Tally}
+use Rattle.st_hop_books.specs.declared.error.BooksError.{BooksError}
 use Rattle.st_links.specs.declared.booking.Booking.{Booking}
 use Rattle.st_hop_books.specs.Fulfillments.{proof_tree, last_id}
-use Rattle.st_hop_books.specs.Trail.{Trail, tally_of, with_bookings}
+use Rattle.st_hop_books.specs.Trail.{Trail, tally_of, with_bookings, with_entry}
 use Rattle.st_hop_books.specs.Table.{AreBooks, lines, payment_tree}
 
 -- the payments and the fulfillments of a database
@@ -47,6 +50,11 @@ pub record IsReady (v : View) : Type 0 where
   pub settled : v.trees ≡ v.committed
   pub loads : is_sound_list (v.committed catalog_tree) ≡ true
 
+-- a store with the tables is ready, if it is clean and open
+abbrev pub IsReadyOnceLaid : View → Type 0
+IsReadyOnceLaid v =
+    IsClean v → IsTrue v.is_open → v.shape 0 ≡ Table → v.shape payment_tree ≡ Table → v.shape proof_tree ≡ Table → IsReady v
+
 -- only the cursors differ
 abbrev pub ReadsOnly : View → View → Type 0
 ReadsOnly old new = new ≡ record old { cursors = new.cursors }
@@ -59,7 +67,18 @@ pub record Draws (old new : View) (names : List (List ℕ)) (before after : List
 -- the table of accounts changes from these lines to those, and the proofs of these bookings are added after those that are there
 pub record Enters (old new : View) (names : List (List ℕ)) (before after : List Amounts) (last : ℕ) (bookings : List Booking) : Type 0 where
   pub frame : OnlyWrites old new
-  pub books : (starts : ℕ) (trail : Trail) → last_id trail.proofs ≡ last → AreBooks old.trees starts names before trail → AreBooks new.trees starts names after (with_bookings trail names bookings)
+  pub books : (starts : ℕ) (trail : Trail) → last_id trail.proofs ≡ last → AreBooks old.trees starts names before trail
+      → AreBooks new.trees starts names after (with_bookings trail names bookings)
+
+-- the payments with this tally get this one more, in the tables of these accounts
+abbrev pub AddsEntry : (old new : View) → List (List ℕ) → (before after : List Amounts) → Tally → Payment → (text : List ℕ) → Type 0
+AddsEntry old new names before after tally p text =
+    (starts : ℕ) (trail : Trail) → tally_of trail ≡ tally → AreBooks old.trees starts names before trail
+    → AreBooks new.trees starts names after (with_entry trail names p text)
+
+-- a success puts this row into the tree
+abbrev pub PutsRow : {S T : Type 0} → Ghosts S → (old new : S) → Result T BooksError → (tree : ℕ) → Row → Type 0
+PutsRow g old new result tree row = OnOk result (IsClean (g.view new) → SetsTree (g.view old) (g.view new) tree (put_row row))
 
 -- the last commit stays
 pub record Keeps (old new : View) : Type 0 where
@@ -76,6 +95,16 @@ pub record Sums : Type 0 where
 
 abbrev pub AreSums : Trees → Sums → Type 0
 AreSums db s = AreBooks db s.starts s.names s.amounts s.trail
+
+-- each database that a crash may leave now is one that it could leave before, or these books
+abbrev pub RecoversTo : {S : Type 0} → Ghosts S → (old new : S) → (starts : ℕ) → List (List ℕ) → List Amounts → Trail → Type 0
+RecoversTo g old new starts names all trail =
+    IsClean (g.view new) → (db : Trees) → g.recovers new db → g.recovers old db ⊎ AreBooks db starts names all trail
+
+-- and it is one that it could leave before, or the tables with all that was entered
+abbrev pub RecoversToEntered : {S T : Type 0} → Ghosts S → (old new : S) → (entered : Result T BooksError) → Type 0
+RecoversToEntered g old new entered = IsClean (g.view new) → (db : Trees) → g.recovers new db
+    → (IsOk entered × ((g.view old).is_broken ≡ false) × (db ≡ (g.view old).trees)) ⊎ g.recovers old db
 
 -- each database that a crash may leave is these books
 abbrev pub LeavesOnly : {S : Type 0} → Ghosts S → S → Sums → Type 0

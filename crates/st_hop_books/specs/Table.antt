@@ -60,6 +60,12 @@ IsPaymentRow = IsTableRow 2 (codes "payment") payment_text
 abbrev pub IsProofRow : Row → Type 0
 IsProofRow = IsTableRow 4 (codes "fulfillment") proof_text
 
+-- these objects are the three tables and a view like this
+abbrev pub AreObjects : List Row → (IsView : Row → Type 0) → Type 0
+AreObjects objects IsView =
+    (account : Row) × (payment : Row) × (row : Row) × (proof : Row) × (objects ≡ account ∷ payment ∷ row ∷ proof ∷ [])
+    × IsAccountRow account × IsPaymentRow payment × IsProofRow proof × IsView row
+
 -- the file has these three tables, the view of books and no other object
 pub record ListsTables (objects : List Row) : Type 0 where
   pub account : Row

@@ -5,7 +5,7 @@ use Rattle.sqlite_value.specs.Order.{Row}
 use Rattle.st_links.specs.declared.booking.Booking.{Booking}
 use Rattle.st_hop_books.specs.declared.balance.Payment.{Payment}
 use Rattle.st_hop_books.specs.declared.balance.Tally.{Tally}
-use Rattle.st_hop_books.specs.Payments.{latest_in, with_payment}
+use Rattle.st_hop_books.specs.Payments.{latest_in, payment_line, with_payment}
 use Rattle.st_hop_books.specs.Fulfillments.{last_id, last_after, with_proofs}
 
 pub record Trail : Type 0 where
@@ -32,6 +32,10 @@ tally_of t = record { lines = length t.paid; latest = latest_in t.paid; filed = 
 -- with one payment more
 abbrev pub next_tally : Tally → Payment → Tally
 next_tally t p = record { lines = t.lines + 1; latest = max t.latest p.moment; filed = t.filed }
+
+-- the line of the payment that comes after those of this tally
+abbrev pub next_line : Tally → (name text : List ℕ) → Payment → Row
+next_line t name text p = payment_line (t.lines + 1) name text p.amount (max t.latest p.moment)
 
 -- with bookings
 abbrev pub later_tally : Tally → List Booking → Tally

@@ -8,9 +8,9 @@ ghost use Rattle.sqlite_trees.specs.declared.error.StoreError.{StoreError};
 ghost use Rattle.sqlite_store.specs.FileStore.{view, recovers, log_frames, HasSpilled};
 ghost use Rattle.st_hop_books.specs.Errors.{number, told};
 ghost use Rattle.st_hop_books.specs.Table.{AreDistinct};
-ghost use Rattle.st_hop_books.specs.Payments.{entry_text, name_at, Finds, IsCovered};
+ghost use Rattle.st_hop_books.specs.Payments.{name_at, Finds, IsCovered};
 ghost use Rattle.st_hop_books.specs.Standing.{Holds, trail_in};
-ghost use Rattle.st_hop_books.specs.Commits.{Commits, Makes, Refuses, Rereads, IsBecause, KeepsFor, after_bookings, after_name, after_start, after_payment, booking_excuses, name_excuses, start_excuses, payment_excuses};
+ghost use Rattle.st_hop_books.specs.Commits.{Commits, Makes, Refuses, Rereads, IsBecause, KeepsFor, after_bookings, after_name, after_start, after_payment, bookings_excuses, name_excuses, start_excuses, entering_excuses};
 
 use crate::balance::{Amounts, Entry, Kind, Payment, Side, Tally};
 use crate::error::BooksError;
@@ -48,7 +48,8 @@ impl<S: Alter> Model for Books<S> {
 
     ghost view = { λ b. record { store = b.store; starts = b.starts; names = b.names.items; amounts = b.amounts.items } };
 
-    ghost invariant = { λ b. Holds (S.Store.view b.store) b.starts b.names.items b.amounts.items (trail_in (S.Store.view b.store)) b.tally × (length b.names.items ≡ length b.amounts.items) × AreDistinct b.names.items };
+    ghost invariant = { λ b. Holds (S.Store.view b.store) b.starts b.names.items b.amounts.items (trail_in (S.Store.view b.store)) b.tally
+        × (length b.names.items ≡ length b.amounts.items) × AreDistinct b.names.items };
 }
 
 // It is written out, so that a caller does not prove again how each part is dropped.
@@ -164,7 +165,7 @@ impl<S: Alter> Books<S> {
     pub fn book(&mut self, bookings: &[Booking]) -> Result<(), BooksError>
         ensures committed { OnOk result (Commits S.Store self.old bookings.now self.new) }
         ensures refused { OnErr result (Refuses S.Store self.old (after_bookings S.Store self.old bookings.now) self.new) }
-        ensures cause { IfErr result (IsBecause S.Store self.old self.new (booking_excuses (S.Store.view self.old.store) self.old.names self.old.amounts bookings.now)) }
+        ensures cause { IfErr result (IsBecause S.Store self.old self.new (bookings_excuses S.Store self.old bookings.now)) }
     {
         let mut draft = Vec::from_slice(self.alloc, self.amounts.as_slice())?;
         let mut later = self.tally;
@@ -198,7 +199,7 @@ impl<S: Alter> Books<S> {
         ensures covered { OnOk result (IsCovered self.old.amounts payment) }
         ensures paid { OnOk result (Makes S.Store self.old (after_payment S.Store self.old payment reference.now) self.new) }
         ensures refused { OnErr result (Refuses S.Store self.old (after_payment S.Store self.old payment reference.now) self.new) }
-        ensures cause { IfErr result (IsBecause S.Store self.old self.new (payment_excuses (S.Store.view self.old.store) self.old.names self.old.amounts payment (entry_text payment.kind payment.side reference.now))) }
+        ensures cause { IfErr result (IsBecause S.Store self.old self.new (entering_excuses S.Store self.old payment reference.now)) }
     {
         // No disk has room for that number of payments.
         let Some(next) = next_tally(self.tally, payment) else {
@@ -238,7 +239,8 @@ impl<S: Alter> Books<S> {
         reference: &str,
     ) -> Result<Option<Entry>, BooksError>
         requires { account < length self.old.names }
-        ensures found { IfOk result (λ e. IsClean (S.Store.view self.new.store) → Finds (trail_in (S.Store.view self.old.store)).paid (name_at self.old.names account) side reference.now e) }
+        ensures found { IfOk result (λ e. IsClean (S.Store.view self.new.store)
+            → Finds (trail_in (S.Store.view self.old.store)).paid (name_at self.old.names account) side reference.now e) }
         ensures same { Rereads S.Store self.old self.new }
         ensures cause { IfErr result (λ e. (why : StoreError) × (e ≡ told why)) }
     {

@@ -1,16 +1,14 @@
 //! A fulfillment that proves a claim, in the third table of a store.
 
-ghost use Rattle.std.specs.Prelude.{◌≡◌, ◌⊎◌, ◌+◌, ◌++◌, ◌∷◌, [], ◌^◌, ◌≤◌, pos, length, IsTrue, IfErr, IfOk, IfSome, OnOk};
-ghost use Rattle.sqlite_disk.specs.Disk.{MoreFaults};
+ghost use Rattle.std.specs.Prelude.{◌≡◌, ◌⊎◌, ◌+◌, ◌^◌, ◌≤◌, pos, length, IsTrue, IfErr, IfOk, IfSome, OnOk};
 ghost use Rattle.sqlite_value.specs.Order.{column};
 ghost use Rattle.sqlite_value.specs.declared.value.Value.TheVariants.{Int, Blob};
-ghost use Rattle.sqlite_trees.specs.Tree.{put_row};
-ghost use Rattle.sqlite_trees.specs.View.{IsClean, IsQuiet, OnlyWrites, SetsTree, IsStorableRow};
+ghost use Rattle.sqlite_trees.specs.View.{IsClean, IsQuiet, OnlyWrites};
 ghost use Rattle.sqlite_trees.specs.declared.store.Shape.TheVariants as shapes;
 ghost use Rattle.st_hop_books.specs.declared.error.BooksError.TheVariants.{NoMemory, TooMuch};
-ghost use Rattle.st_hop_books.specs.Fulfillments.{proof_tree, proof_line, last_id, AreProofs, IsProofLine};
-ghost use Rattle.st_hop_books.specs.Standing.{Keeps, ReadsOnly};
-ghost use Rattle.st_hop_books.specs.Reasons.{Because, excuses};
+ghost use Rattle.st_hop_books.specs.Fulfillments.{proof_tree, line_of_proof, last_id, AddsProof, AreProofs, IsProofLine};
+ghost use Rattle.st_hop_books.specs.Standing.{Keeps, PutsRow, ReadsOnly};
+ghost use Rattle.st_hop_books.specs.Reasons.{FailsOnlyFor, row_excuses};
 
 use crate::error::BooksError;
 use crate::lines::{count_in, is_null, text_in};
@@ -44,7 +42,7 @@ fn write_proof(
     proof: &Proof,
 ) -> Result<u64, BooksError>
     ensures id { IfOk result (λ id. id ≡ last + 1) }
-    ensures line { OnOk result (row.new ≡ proof_line (last + 1) name.now proof.now.condition proof.now.fulfillment amount proof.now.moment) }
+    ensures line { OnOk result (row.new ≡ line_of_proof (last + 1) name.now amount proof.now) }
     ensures cause { IfErr result (λ e. (e ≡ NoMemory) ⊎ ((e ≡ TooMuch) × (2 ^ 63 ≤ amount))) }
 {
     let Some(amount) = counted(amount) else {
@@ -74,13 +72,15 @@ pub(crate) fn file_proof<S: Alter>(
 ) -> Result<u64, BooksError>
     requires { IsClean (S.Store.view store.old) → (S.Store.view store.old).shape proof_tree ≡ shapes.Table }
     ensures id { IfOk result (λ id. id ≡ last + 1) }
-    ensures put { OnOk result (IsClean (S.Store.view store.new) → SetsTree (S.Store.view store.old) (S.Store.view store.new) proof_tree (put_row (proof_line (last + 1) name.now proof.condition proof.fulfillment amount proof.moment))) }
-    ensures behind { OnOk result (IsClean (S.Store.view store.new) → AreProofs ((S.Store.view store.old).trees proof_tree) → last_id ((S.Store.view store.old).trees proof_tree) ≡ last
-        → (S.Store.view store.new).trees proof_tree ≡ (S.Store.view store.old).trees proof_tree ++ proof_line (last + 1) name.now proof.condition proof.fulfillment amount proof.moment ∷ []) }
+    ensures put { PutsRow S.Store store.old store.new result proof_tree (line_of_proof (last + 1) name.now amount proof) }
+    ensures behind { OnOk result (IsClean (S.Store.view store.new)
+        → AddsProof ((S.Store.view store.old).trees proof_tree) ((S.Store.view store.new).trees proof_tree)
+        last (line_of_proof (last + 1) name.now amount proof)) }
     ensures frame { OnOk result (IsClean (S.Store.view store.new) → OnlyWrites (S.Store.view store.old) (S.Store.view store.new)) }
     ensures keeps { Keeps (S.Store.view store.old) (S.Store.view store.new) }
     ensures quiet { IsQuiet S.Store.view S.Store.faults S.Store.recovers S.Store.is_shielded store.old store.new }
-    ensures cause { IsClean (S.Store.view store.new) → IfErr result (Because (S.Store.view store.old) (MoreFaults (S.Store.faults store.old) (S.Store.faults store.new)) (excuses ⊥ (2 ^ 63 ≤ amount) ⊥ (¬ IsStorableRow ((S.Store.view store.old).reals proof_tree) (proof_line (last + 1) name.now proof.condition proof.fulfillment amount proof.moment)))) }
+    ensures cause { FailsOnlyFor S.Store store.old store.new result
+        (row_excuses (2 ^ 63 ≤ amount) (S.Store.view store.old) proof_tree (line_of_proof (last + 1) name.now amount proof)) }
 {
     let id = write_proof(row, last, name, amount, &proof)?;
     store.put(3, row)?;

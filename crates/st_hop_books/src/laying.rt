@@ -1,20 +1,18 @@
 //! The three tables of books and their view: whether a store lists them, and how they are made.
 
-ghost use Rattle.std.specs.Prelude.{◌≡◌, ◌≢◌, ◌⊎◌, ◌<◌, ◌∷◌, [], false, true, pos, codes, List, ℕ, IsTrue, IfOk, IfSome, OnOk, OnErr};
-ghost use Rattle.std.specs.List.{AllByRecursion};
-ghost use Rattle.sqlite_value.specs.declared.value.Value.TheVariants.{Int, Text};
-ghost use Rattle.sqlite_value.specs.Order.{Row as Values, column};
-ghost use Rattle.sqlite_trees.specs.Tree.{Trees, put_row};
-ghost use Rattle.sqlite_trees.specs.Objects.{catalog_tree, SetsObject};
+ghost use Rattle.std.specs.Prelude.{◌≡◌, ◌<◌, [], false, true, codes, List, ℕ, IsTrue, IfOk, IfSome, OnOk, OnErr};
+ghost use Rattle.sqlite_value.specs.declared.value.Value.TheVariants.{Text};
+ghost use Rattle.sqlite_value.specs.Order.{column};
+ghost use Rattle.sqlite_trees.specs.Objects.{catalog_tree};
 ghost use Rattle.sqlite_trees.specs.Sound.{is_sound_list};
 ghost use Rattle.sqlite_trees.specs.View.{IsClean, IsQuiet, KeepsCommitted};
 ghost use Rattle.sqlite_trees.specs.declared.store.Shape.TheVariants as shapes;
-ghost use Rattle.st_hop_books.specs.Stamp.{stamp_tree, stamp_row, IsStampText, IsStampRow};
+ghost use Rattle.st_hop_books.specs.Stamp.{stamp_tree, stamp_row, IsNamedRow, IsStampText, IsStampRow};
 ghost use Rattle.st_hop_books.specs.Fulfillments.{proof_tree};
 ghost use Rattle.st_hop_books.specs.Trail.{no_trail};
-ghost use Rattle.st_hop_books.specs.Table.{payment_tree, AreBooks, IsTableRow, IsAccountRow, IsPaymentRow, IsProofRow, ListsTables, IsOf};
-ghost use Rattle.st_hop_books.specs.Standing.{IsReady};
-ghost use Rattle.st_hop_books.specs.Made.{table_row, IsUnlaid, Lays};
+ghost use Rattle.st_hop_books.specs.Table.{payment_tree, AreBooks, AreObjects, IsTableRow, ListsTables, IsOf};
+ghost use Rattle.st_hop_books.specs.Standing.{IsReady, RecoversTo};
+ghost use Rattle.st_hop_books.specs.Made.{table_row, IsUnlaid, IsUnlaidIfOpen, Lays, ListsNo, ListsTree};
 
 use crate::error::BooksError;
 use crate::lines::{count_in, text_in};
@@ -60,7 +58,7 @@ fn is_table_row(row: &Row, number: u64, name: &str, text: &str) -> bool
 
 /// Whether a row of the list of objects has the number and the names of the view.
 fn is_named(row: &Row) -> bool
-    ensures { IsTrue result → (column row.now 0 ≡ Int (pos 3)) × (column row.now 1 ≡ Text (codes "view")) × (column row.now 2 ≡ Text (codes "books")) × (column row.now 3 ≡ Text (codes "books")) }
+    ensures { IsTrue result → IsNamedRow row.now }
 {
     count_in(row, 0) == Some(3)
         && has_text(row, 1, "view")
@@ -83,8 +81,7 @@ fn is_stamp_row(alloc: Global, row: &Row, own: Option<&str>) -> Result<bool, Boo
 
 /// Whether the list of objects is that of books: the three tables, and the view, which says this address, if one is asked for.
 fn is_listed(alloc: Global, objects: &[Row], own: Option<&str>) -> Result<bool, BooksError>
-    ensures { IfOk result (λ b. IsTrue b → (account : Values) × (payment : Values) × (row : Values) × (proof : Values) × (objects.now ≡ account ∷ payment ∷ row ∷ proof ∷ []) × IsAccountRow account × IsPaymentRow payment × IsProofRow proof
-        × ((stamp : IsStampRow row) × IfSome own.entry (λ a. stamp.address ≡ a.now))) }
+    ensures { IfOk result (λ b. IsTrue b → AreObjects objects.now (λ row. (stamp : IsStampRow row) × IfSome own.entry (λ a. stamp.address ≡ a.now))) }
 {
     match objects {
         [account, payment, stamp, proof] => {
@@ -144,7 +141,8 @@ pub(crate) fn lists_books<S: Alter>(
     ensures listed { IfOk result (λ b. IsTrue b → IsClean (S.Store.view store.now) → (S.Store.view store.now).is_broken ≡ false
         → is_sound_list ((S.Store.view store.now).trees catalog_tree) ≡ true → ListsTables ((S.Store.view store.now).trees catalog_tree)) }
     ensures own { IfOk result (λ b. IsTrue b → IsClean (S.Store.view store.now) → (S.Store.view store.now).is_broken ≡ false
-        → is_sound_list ((S.Store.view store.now).trees catalog_tree) ≡ true → IfSome own.entry (λ a. IsOf a.now ((S.Store.view store.now).trees catalog_tree))) }
+        → is_sound_list ((S.Store.view store.now).trees catalog_tree) ≡ true
+        → IfSome own.entry (λ a. IsOf a.now ((S.Store.view store.now).trees catalog_tree))) }
 {
     let objects = store.objects(alloc)?;
     if !is_listed(alloc, &objects, own)? {
@@ -180,7 +178,7 @@ pub(crate) fn lists_books<S: Alter>(
 
 /// Whether a store lists nothing and counts no start.
 pub(crate) fn is_unlaid<S: Alter>(alloc: Global, store: &S) -> Result<bool, BooksError>
-    ensures { IfOk result (λ b. IsTrue b → IsClean (S.Store.view store.now) → IsTrue (S.Store.view store.now).is_open → IsTrue (S.Store.view store.now).is_numbered → IsUnlaid (S.Store.view store.now)) }
+    ensures { IfOk result (λ b. IsTrue b → IsUnlaidIfOpen (S.Store.view store.now)) }
 {
     let objects = store.objects(alloc)?;
     let starts = store.version();
@@ -201,8 +199,8 @@ fn create_table<S: Alter>(
     requires low { tree < 65536 }
     requires numbered { IsClean (S.Store.view store.old) → IsTrue (S.Store.view store.old).is_numbered }
     requires unused { IsClean (S.Store.view store.old) → (S.Store.view store.old).shape tree ≡ shapes.Absent }
-    requires unnamed { IsClean (S.Store.view store.old) → AllByRecursion (λ row. column row 2 ≢ Text name.now) ((S.Store.view store.old).trees catalog_tree) }
-    ensures made { OnOk result (IsClean (S.Store.view store.new) → SetsObject (S.Store.view store.old) (S.Store.view store.new) tree shapes.Table 0 (put_row (table_row tree name.now text.now))) }
+    requires unnamed { IsClean (S.Store.view store.old) → ListsNo name.now (S.Store.view store.old) }
+    ensures made { ListsTree S.Store store.old store.new result tree shapes.Table (table_row tree name.now text.now) }
     ensures quiet { IsQuiet S.Store.view S.Store.faults S.Store.recovers S.Store.is_shielded store.old store.new }
 {
     let object = Object {
@@ -221,8 +219,8 @@ fn create_table<S: Alter>(
 fn create_stamp<S: Alter>(store: &mut S, text: &str) -> Result<(), BooksError>
     requires numbered { IsClean (S.Store.view store.old) → IsTrue (S.Store.view store.old).is_numbered }
     requires unused { IsClean (S.Store.view store.old) → (S.Store.view store.old).shape stamp_tree ≡ shapes.Absent }
-    requires unnamed { IsClean (S.Store.view store.old) → AllByRecursion (λ row. column row 2 ≢ Text (codes "books")) ((S.Store.view store.old).trees catalog_tree) }
-    ensures made { OnOk result (IsClean (S.Store.view store.new) → SetsObject (S.Store.view store.old) (S.Store.view store.new) stamp_tree shapes.Pageless 0 (put_row (stamp_row text.now))) }
+    requires unnamed { IsClean (S.Store.view store.old) → ListsNo (codes "books") (S.Store.view store.old) }
+    ensures made { ListsTree S.Store store.old store.new result stamp_tree shapes.Pageless (stamp_row text.now) }
     ensures quiet { IsQuiet S.Store.view S.Store.faults S.Store.recovers S.Store.is_shielded store.old store.new }
 {
     let object = Object {
@@ -258,7 +256,7 @@ pub(crate) fn make<S: Alter>(store: &mut S, text: &str) -> Result<(), BooksError
     ensures ready { OnOk result (IsClean (S.Store.view store.new) → IsReady (S.Store.view store.new)) }
     ensures made { OnOk result (IsClean (S.Store.view store.new) → AreBooks (S.Store.view store.new).trees 0 [] [] no_trail) }
     ensures clean { IsClean (S.Store.view store.new) → IsClean (S.Store.view store.old) }
-    ensures any_moment { IsClean (S.Store.view store.new) → (db : Trees) → S.Store.recovers store.new db → S.Store.recovers store.old db ⊎ AreBooks db 0 [] [] no_trail }
+    ensures any_moment { RecoversTo S.Store store.old store.new 0 [] [] no_trail }
 {
     let entered = create_tables(store, text);
     conclude(store, entered)

@@ -55,7 +55,8 @@ pub(crate) fn find<S: Alter>(
     adjusted: &[u8],
 ) -> Result<Option<Entry>, BooksError>
     requires { IsClean (S.Store.view store.old) → (S.Store.view store.old).shape payment_tree ≡ shapes.Table }
-    ensures found { IfOk result (λ e. IsClean (S.Store.view store.new) → FindsText ((S.Store.view store.old).trees payment_tree) name.now paid.now adjusted.now e) }
+    ensures found { IfOk result (λ e. IsClean (S.Store.view store.new)
+        → FindsText ((S.Store.view store.old).trees payment_tree) name.now paid.now adjusted.now e) }
     ensures sound { IfOk result (λ _. IsClean (S.Store.view store.new) → (S.Store.view store.old).is_broken ≡ false) }
     ensures keeps { Keeps (S.Store.view store.old) (S.Store.view store.new) }
     ensures quiet { IsQuiet S.Store.view S.Store.faults S.Store.recovers S.Store.is_shielded store.old store.new }

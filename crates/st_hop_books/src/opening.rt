@@ -11,11 +11,10 @@ ghost use Rattle.sqlite.specs.Files.{image_of};
 ghost use Rattle.sqlite.specs.State.{HasCleanDisk};
 ghost use Rattle.sqlite.specs.Held.{state};
 ghost use Rattle.st_hop_books.specs.Payments.{ArePayments};
-ghost use Rattle.st_hop_books.specs.Fulfillments.{proof_tree};
 ghost use Rattle.st_hop_books.specs.Trail.{tally_of, paid_alone};
 ghost use Rattle.st_hop_books.specs.Stamp.{IsStampText};
 ghost use Rattle.st_hop_books.specs.Table.{payment_tree, lines, AreDistinct, ListsTables, IsOf};
-ghost use Rattle.st_hop_books.specs.Standing.{IsReady, ReadsOnly, Takes};
+ghost use Rattle.st_hop_books.specs.Standing.{IsReadyOnceLaid, ReadsOnly, Takes};
 ghost use Rattle.st_hop_books.specs.Found.{FindsWhole};
 
 use crate::balance::{Amounts, Tally};
@@ -77,7 +76,7 @@ fn read_lines<S: Alter>(alloc: Global, store: &mut S, row: &mut Row) -> Result<L
 
 /// The store of a connection, with nothing that was not committed.
 fn let_go<S: Alter + Drop>(conn: Connection<S>) -> S
-    ensures ready { IsClean (S.Store.view result) → IsTrue (S.Store.view result).is_open → (S.Store.view result).shape 0 ≡ shapes.Table → (S.Store.view result).shape payment_tree ≡ shapes.Table → (S.Store.view result).shape proof_tree ≡ shapes.Table → IsReady (S.Store.view result) }
+    ensures ready { IsReadyOnceLaid (S.Store.view result) }
     ensures fresh { IsClean (S.Store.view result) → IsTrue (S.Store.view result).is_open → IsFresh (S.Store.view result) }
     ensures same { IsTrue (S.Store.view result).is_open → (S.Store.view result).trees ≡ (state S.Store conn).committed.trees }
     ensures clean { IsClean (S.Store.view result) → HasCleanDisk (state S.Store conn) }
@@ -119,7 +118,7 @@ fn books_in<S: Alter + Drop>(
     mut store: S,
     own: Option<&str>,
 ) -> Result<Books<S>, BooksError>
-    requires { IsClean (S.Store.view store) → IsTrue (S.Store.view store).is_open → (S.Store.view store).shape 0 ≡ shapes.Table → (S.Store.view store).shape payment_tree ≡ shapes.Table → (S.Store.view store).shape proof_tree ≡ shapes.Table → IsReady (S.Store.view store) }
+    requires { IsReadyOnceLaid (S.Store.view store) }
     ensures clean { IfOk result (λ b. IsClean (S.Store.view b.store) → IsClean (S.Store.view store)) }
     ensures taken { IfOk result (λ b. IsClean (S.Store.view b.store) → Takes S.Store (S.Store.view store).trees b) }
     ensures listed { IfOk result (λ b. IsClean (S.Store.view b.store) → ListsTables ((S.Store.view store).trees catalog_tree)) }

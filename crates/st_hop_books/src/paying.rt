@@ -1,17 +1,15 @@
 //! A payment outside Interledger or an adjustment, in the two tables of a store.
 
 ghost use Rattle.std.specs.Prelude.{◌≡◌, ◌≢◌, ◌⊎◌, ◌+◌, ◌++◌, ◌^◌, ◌<◌, ◌≤◌, max, pos, length, List, slice_get, Some, IsTrue, IsOk, IfErr, IfOk, IfSome, OnOk, OnErr};
-ghost use Rattle.sqlite_disk.specs.Disk.{MoreFaults};
 ghost use Rattle.sqlite_value.specs.Order.{Row as Values};
-ghost use Rattle.sqlite_trees.specs.Tree.{Trees, put_row};
-ghost use Rattle.sqlite_trees.specs.View.{IsClean, IsQuiet, OnlyWrites, SetsTree, IsStorableRow};
+ghost use Rattle.sqlite_trees.specs.View.{IsClean, IsQuiet, OnlyWrites};
 ghost use Rattle.sqlite_trees.specs.declared.store.Shape.TheVariants as shapes;
 ghost use Rattle.st_hop_books.specs.declared.error.BooksError.TheVariants.{NoMemory, TooMuch};
-ghost use Rattle.st_hop_books.specs.Payments.{sign_text, side_text, entry_text, payment_line, paid_off, IsCovered, IsEntryText, IsUncountable};
-ghost use Rattle.st_hop_books.specs.Trail.{Trail, next_tally, tally_of, with_entry};
-ghost use Rattle.st_hop_books.specs.Table.{payment_tree, AreBooks};
-ghost use Rattle.st_hop_books.specs.Standing.{Holds, Keeps, trail_in};
-ghost use Rattle.st_hop_books.specs.Reasons.{Because, excuses};
+ghost use Rattle.st_hop_books.specs.Payments.{sign_text, side_text, entry_text, paid_off, IsCovered, IsEntryText, IsUncountable};
+ghost use Rattle.st_hop_books.specs.Trail.{next_line, next_tally, with_entry};
+ghost use Rattle.st_hop_books.specs.Table.{payment_tree};
+ghost use Rattle.st_hop_books.specs.Standing.{AddsEntry, Holds, Keeps, PutsRow, RecoversTo, trail_in};
+ghost use Rattle.st_hop_books.specs.Reasons.{FailsOnlyFor, row_excuses};
 ghost use Rattle.st_hop_books.specs.Commits.{payment_excuses};
 
 use crate::balance::{Amounts, Kind, Payment, Side, Tally, change};
@@ -106,7 +104,7 @@ fn write_payment(
     payment: Payment,
     text: &[u8],
 ) -> Result<(), BooksError>
-    ensures line { OnOk result (row.new ≡ payment_line (before.lines + 1) name.now text.now payment.amount (max before.latest payment.moment)) }
+    ensures line { OnOk result (row.new ≡ next_line before name.now text.now payment) }
     ensures cause { IfErr result (λ e. (e ≡ NoMemory) ⊎ ((e ≡ TooMuch) × IsUncountable payment)) }
 {
     let Some(amount) = counted(payment.amount) else {
@@ -140,11 +138,12 @@ fn add_payment<S: Alter>(
     text: &[u8],
 ) -> Result<(), BooksError>
     requires { IsClean (S.Store.view store.old) → (S.Store.view store.old).shape payment_tree ≡ shapes.Table }
-    ensures put { OnOk result (IsClean (S.Store.view store.new) → SetsTree (S.Store.view store.old) (S.Store.view store.new) payment_tree (put_row (payment_line (before.lines + 1) name.now text.now payment.amount (max before.latest payment.moment)))) }
+    ensures put { PutsRow S.Store store.old store.new result payment_tree (next_line before name.now text.now payment) }
     ensures frame { OnOk result (IsClean (S.Store.view store.new) → OnlyWrites (S.Store.view store.old) (S.Store.view store.new)) }
     ensures keeps { Keeps (S.Store.view store.old) (S.Store.view store.new) }
     ensures quiet { IsQuiet S.Store.view S.Store.faults S.Store.recovers S.Store.is_shielded store.old store.new }
-    ensures cause { IsClean (S.Store.view store.new) → IfErr result (Because (S.Store.view store.old) (MoreFaults (S.Store.faults store.old) (S.Store.faults store.new)) (excuses ⊥ (IsUncountable payment) ⊥ (¬ IsStorableRow ((S.Store.view store.old).reals payment_tree) (payment_line (before.lines + 1) name.now text.now payment.amount (max before.latest payment.moment))))) }
+    ensures cause { FailsOnlyFor S.Store store.old store.new result
+        (row_excuses (IsUncountable payment) (S.Store.view store.old) payment_tree (next_line before name.now text.now payment)) }
 {
     write_payment(row, before, name, payment, text)?;
     store.put(1, row)?;
@@ -168,11 +167,11 @@ fn enter_payment<S: Alter>(
     ensures covered { OnOk result (IsCovered draft.old payment) }
     ensures paid { OnOk result (draft.new ≡ paid_off draft.old payment) }
     ensures frame { OnOk result (IsClean (S.Store.view store.new) → OnlyWrites (S.Store.view store.old) (S.Store.view store.new)) }
-    ensures drawn { OnOk result (IsClean (S.Store.view store.new) → (starts : _) (trail : Trail) → tally_of trail ≡ before → AreBooks (S.Store.view store.old).trees starts names.now draft.old trail
-        → AreBooks (S.Store.view store.new).trees starts names.now draft.new (with_entry trail names.now payment text.now)) }
+    ensures drawn { OnOk result (IsClean (S.Store.view store.new)
+        → AddsEntry (S.Store.view store.old) (S.Store.view store.new) names.now draft.old draft.new before payment text.now) }
     ensures keeps { Keeps (S.Store.view store.old) (S.Store.view store.new) }
     ensures quiet { IsQuiet S.Store.view S.Store.faults S.Store.recovers S.Store.is_shielded store.old store.new }
-    ensures cause { IsClean (S.Store.view store.new) → IfErr result (Because (S.Store.view store.old) (MoreFaults (S.Store.faults store.old) (S.Store.faults store.new)) (payment_excuses (S.Store.view store.old) names.now draft.old payment text.now)) }
+    ensures cause { FailsOnlyFor S.Store store.old store.new result (payment_excuses (S.Store.view store.old) names.now draft.old payment text.now) }
 {
     let at = payment.account;
     if at >= draft.len() {
@@ -199,11 +198,13 @@ pub(crate) fn commit_payment<S: Alter>(
     requires words { IsEntryText payment.kind payment.side text.now }
     ensures covered { OnOk result (IsCovered draft.old payment) }
     ensures paid { OnOk result (draft.new ≡ paid_off draft.old payment) }
-    ensures holds { OnOk result (Holds (S.Store.view store.new) _starts names.now draft.new (with_entry (trail_in (S.Store.view store.old)) names.now payment text.now) (next_tally before payment)) }
+    ensures holds { OnOk result (Holds (S.Store.view store.new) _starts names.now draft.new
+        (with_entry (trail_in (S.Store.view store.old)) names.now payment text.now) (next_tally before payment)) }
     ensures stays_open { OnOk result (IsClean (S.Store.view store.new) → IsTrue (S.Store.view store.new).is_open) }
     ensures undone { OnErr result (Holds (S.Store.view store.new) _starts names.now draft.old (trail_in (S.Store.view store.old)) before) }
-    ensures any_moment { IsClean (S.Store.view store.new) → (db : Trees) → S.Store.recovers store.new db → S.Store.recovers store.old db ⊎ AreBooks db _starts names.now (paid_off draft.old payment) (with_entry (trail_in (S.Store.view store.old)) names.now payment text.now) }
-    ensures cause { IsClean (S.Store.view store.new) → IfErr result (Because (S.Store.view store.old) (MoreFaults (S.Store.faults store.old) (S.Store.faults store.new)) (payment_excuses (S.Store.view store.old) names.now draft.old payment text.now)) }
+    ensures any_moment { RecoversTo S.Store store.old store.new _starts names.now
+        (paid_off draft.old payment) (with_entry (trail_in (S.Store.view store.old)) names.now payment text.now) }
+    ensures cause { FailsOnlyFor S.Store store.old store.new result (payment_excuses (S.Store.view store.old) names.now draft.old payment text.now) }
 {
     let entered = enter_payment(store, row, names, draft, before, payment, text);
     conclude(store, entered)

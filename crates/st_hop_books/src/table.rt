@@ -1,19 +1,17 @@
 //! The table of accounts in a store.
 
-ghost use Rattle.std.specs.Prelude.{◌≡◌, ◌⊎◌, ◌+◌, ◌^◌, ◌<◌, ◌≤◌, ◌++◌, ◌∷◌, [], None, false, fold, length, pos, slice_set, IsTrue, IsOk, IfOk, IfErr, IfSome, OnOk, OnErr};
-ghost use Rattle.sqlite_disk.specs.Disk.{MoreFaults};
-ghost use Rattle.sqlite_trees.specs.Tree.{Trees, put_row};
+ghost use Rattle.std.specs.Prelude.{◌≡◌, ◌⊎◌, ◌+◌, ◌^◌, ◌<◌, ◌≤◌, ◌++◌, ◌∷◌, [], None, fold, length, pos, slice_set, IsTrue, IsOk, IfOk, IfErr, IfSome, OnOk, OnErr};
 ghost use Rattle.sqlite_trees.specs.Objects.{version_tree, version_rows};
-ghost use Rattle.sqlite_trees.specs.View.{IsClean, IsQuiet, IsRolledBack, Commits, KeepsCommitted, OnlyWrites, SetsTree, IsStorableRow};
+ghost use Rattle.sqlite_trees.specs.View.{IsClean, IsQuiet, IsRolledBack, Commits, KeepsCommitted, OnlyWrites, SetsTree};
 ghost use Rattle.sqlite_trees.specs.declared.store.Shape.TheVariants as shapes;
 ghost use Rattle.st_hop_books.specs.declared.error.BooksError.TheVariants.{NoMemory, TooMuch};
-ghost use Rattle.st_hop_books.specs.Sums.{nothing, booked, booked_one, IsAbove, IsOfNoAccount, Overflows};
+ghost use Rattle.st_hop_books.specs.Sums.{nothing, booked, booked_one, IsAbove};
 ghost use Rattle.st_hop_books.specs.Fulfillments.{proof_tree, last_after};
 ghost use Rattle.st_hop_books.specs.Trail.{later_tally, with_bookings};
-ghost use Rattle.st_hop_books.specs.Table.{line, AreBooks};
-ghost use Rattle.st_hop_books.specs.Standing.{Holds, Draws, Enters, Keeps, ReadsOnly, trail_in};
-ghost use Rattle.st_hop_books.specs.Reasons.{Because, HasBadName, HasBadProof, no_excuse, excuses};
-ghost use Rattle.st_hop_books.specs.Commits.{booking_excuses, name_excuses, start_excuses};
+ghost use Rattle.st_hop_books.specs.Table.{line};
+ghost use Rattle.st_hop_books.specs.Standing.{Holds, Draws, Enters, Keeps, PutsRow, ReadsOnly, RecoversTo, RecoversToEntered, trail_in};
+ghost use Rattle.st_hop_books.specs.Reasons.{FailsAsEntered, FailsOnlyFor, entry_excuses, line_excuses, no_excuse, row_excuses, sum_excuses};
+ghost use Rattle.st_hop_books.specs.Commits.{booking_excuses, name_excuses};
 
 use crate::balance::{Amounts, Tally};
 use crate::error::BooksError;
@@ -77,7 +75,7 @@ pub(crate) fn set_line<S: Alter>(
     ensures drawn { OnOk result (IsClean (S.Store.view store.new) → Draws (S.Store.view store.old) (S.Store.view store.new) names.now draft.old draft.new) }
     ensures keeps { Keeps (S.Store.view store.old) (S.Store.view store.new) }
     ensures quiet { IsQuiet S.Store.view S.Store.faults S.Store.recovers S.Store.is_shielded store.old store.new }
-    ensures cause { IsClean (S.Store.view store.new) → IfErr result (Because (S.Store.view store.old) (MoreFaults (S.Store.faults store.old) (S.Store.faults store.new)) (excuses ⊥ (IsAbove amounts) ⊥ (HasBadName (S.Store.view store.old) names.now))) }
+    ensures cause { FailsOnlyFor S.Store store.old store.new result (line_excuses (S.Store.view store.old) names.now amounts) }
 {
     write_line(row, at, &names[at], amounts)?;
     store.put(0, row)?;
@@ -100,7 +98,7 @@ fn enter_sums<S: Alter>(
     ensures drawn { OnOk result (IsClean (S.Store.view store.new) → Draws (S.Store.view store.old) (S.Store.view store.new) names.now draft.old draft.new) }
     ensures keeps { Keeps (S.Store.view store.old) (S.Store.view store.new) }
     ensures quiet { IsQuiet S.Store.view S.Store.faults S.Store.recovers S.Store.is_shielded store.old store.new }
-    ensures cause { IsClean (S.Store.view store.new) → IfErr result (Because (S.Store.view store.old) (MoreFaults (S.Store.faults store.old) (S.Store.faults store.new)) (excuses (IsOfNoAccount draft.old booking) (Overflows draft.old booking) ⊥ (HasBadName (S.Store.view store.old) names.now))) }
+    ensures cause { FailsOnlyFor S.Store store.old store.new result (sum_excuses (S.Store.view store.old) names.now draft.old booking) }
 {
     let Booking {
         payer,
@@ -147,10 +145,11 @@ fn enter<S: Alter>(
     requires named { length names.now ≡ length draft.old }
     ensures booked { OnOk result (draft.new ≡ booked_one draft.old booking) }
     ensures last { OnOk result (last.new ≡ last_after last.old booking) }
-    ensures entered { OnOk result (IsClean (S.Store.view store.new) → Enters (S.Store.view store.old) (S.Store.view store.new) names.now draft.old draft.new last.old (booking ∷ [])) }
+    ensures entered { OnOk result (IsClean (S.Store.view store.new)
+        → Enters (S.Store.view store.old) (S.Store.view store.new) names.now draft.old draft.new last.old (booking ∷ [])) }
     ensures keeps { Keeps (S.Store.view store.old) (S.Store.view store.new) }
     ensures quiet { IsQuiet S.Store.view S.Store.faults S.Store.recovers S.Store.is_shielded store.old store.new }
-    ensures cause { IsClean (S.Store.view store.new) → IfErr result (Because (S.Store.view store.old) (MoreFaults (S.Store.faults store.old) (S.Store.faults store.new)) (excuses (IsOfNoAccount draft.old booking) (Overflows draft.old booking) ⊥ (HasBadName (S.Store.view store.old) names.now ⊎ HasBadProof (S.Store.view store.old) names.now booking))) }
+    ensures cause { FailsOnlyFor S.Store store.old store.new result (entry_excuses (S.Store.view store.old) names.now draft.old booking) }
 {
     enter_sums(store, row, names, draft, booking)?;
     let Some(proof) = booking.proof else {
@@ -175,10 +174,11 @@ fn enter_all<S: Alter>(
     requires named { length names.now ≡ length draft.old }
     ensures booked { OnOk result (draft.new ≡ booked draft.old bookings.now) }
     ensures last { OnOk result (last.new ≡ fold last_after last.old bookings.now) }
-    ensures entered { OnOk result (IsClean (S.Store.view store.new) → Enters (S.Store.view store.old) (S.Store.view store.new) names.now draft.old draft.new last.old bookings.now) }
+    ensures entered { OnOk result (IsClean (S.Store.view store.new)
+        → Enters (S.Store.view store.old) (S.Store.view store.new) names.now draft.old draft.new last.old bookings.now) }
     ensures keeps { Keeps (S.Store.view store.old) (S.Store.view store.new) }
     ensures quiet { IsQuiet S.Store.view S.Store.faults S.Store.recovers S.Store.is_shielded store.old store.new }
-    ensures cause { IsClean (S.Store.view store.new) → IfErr result (Because (S.Store.view store.old) (MoreFaults (S.Store.faults store.old) (S.Store.faults store.new)) (booking_excuses (S.Store.view store.old) names.now draft.old bookings.now)) }
+    ensures cause { FailsOnlyFor S.Store store.old store.new result (booking_excuses (S.Store.view store.old) names.now draft.old bookings.now) }
 {
     for booking in bookings {
         enter(store, row, names, draft, last, *booking)?;
@@ -196,7 +196,7 @@ fn counted_commit<S: Alter>(
     ensures same { OnOk result (IsClean (S.Store.view store.new) → ReadsOnly (S.Store.view store.old) (S.Store.view store.new)) }
     ensures keeps { IsClean (S.Store.view store.new) → KeepsCommitted (S.Store.view store.old) (S.Store.view store.new) }
     ensures quiet { IsQuiet S.Store.view S.Store.faults S.Store.recovers S.Store.is_shielded store.old store.new }
-    ensures cause { IsClean (S.Store.view store.new) → IfErr result (λ e. (entered ≡ Err e) ⊎ (IsOk entered × Because (S.Store.view store.old) (MoreFaults (S.Store.faults store.old) (S.Store.faults store.new)) no_excuse e)) }
+    ensures cause { FailsAsEntered S.Store store.old store.new entered result }
 {
     match entered {
         Ok(()) => {}
@@ -216,9 +216,9 @@ pub(crate) fn conclude<S: Alter>(
     ensures committed { OnOk result (IsClean (S.Store.view store.new) → Commits (S.Store.view store.old) (S.Store.view store.new)) }
     ensures undone { OnErr result (IsClean (S.Store.view store.new) → IsRolledBack (S.Store.view store.old) (S.Store.view store.new)) }
     ensures clean { IsClean (S.Store.view store.new) → IsClean (S.Store.view store.old) }
-    ensures crash { IsClean (S.Store.view store.new) → (db : Trees) → S.Store.recovers store.new db → (IsOk entered × ((S.Store.view store.old).is_broken ≡ false) × (db ≡ (S.Store.view store.old).trees)) ⊎ S.Store.recovers store.old db }
+    ensures crash { RecoversToEntered S.Store store.old store.new entered }
     ensures counts { S.Store.faults store.old ≤ S.Store.faults store.new }
-    ensures cause { IsClean (S.Store.view store.new) → IfErr result (λ e. (entered ≡ Err e) ⊎ (IsOk entered × Because (S.Store.view store.old) (MoreFaults (S.Store.faults store.old) (S.Store.faults store.new)) no_excuse e)) }
+    ensures cause { FailsAsEntered S.Store store.old store.new entered result }
 {
     match counted_commit(store, entered) {
         Ok(()) => {
@@ -246,11 +246,13 @@ pub(crate) fn commit_bookings<S: Alter>(
     requires named { length names.now ≡ length draft.old }
     ensures booked { OnOk result (draft.new ≡ booked draft.old bookings.now) }
     ensures tally { OnOk result (tally.new ≡ later_tally tally.old bookings.now) }
-    ensures holds { OnOk result (Holds (S.Store.view store.new) _starts names.now draft.new (with_bookings (trail_in (S.Store.view store.old)) names.now bookings.now) (later_tally tally.old bookings.now)) }
+    ensures holds { OnOk result (Holds (S.Store.view store.new) _starts names.now draft.new
+        (with_bookings (trail_in (S.Store.view store.old)) names.now bookings.now) (later_tally tally.old bookings.now)) }
     ensures stays_open { OnOk result (IsClean (S.Store.view store.new) → IsTrue (S.Store.view store.new).is_open) }
     ensures undone { OnErr result (Holds (S.Store.view store.new) _starts names.now draft.old (trail_in (S.Store.view store.old)) tally.old) }
-    ensures any_moment { IsClean (S.Store.view store.new) → (db : Trees) → S.Store.recovers store.new db → S.Store.recovers store.old db ⊎ AreBooks db _starts names.now (booked draft.old bookings.now) (with_bookings (trail_in (S.Store.view store.old)) names.now bookings.now) }
-    ensures cause { IsClean (S.Store.view store.new) → IfErr result (Because (S.Store.view store.old) (MoreFaults (S.Store.faults store.old) (S.Store.faults store.new)) (booking_excuses (S.Store.view store.old) names.now draft.old bookings.now)) }
+    ensures any_moment { RecoversTo S.Store store.old store.new _starts names.now
+        (booked draft.old bookings.now) (with_bookings (trail_in (S.Store.view store.old)) names.now bookings.now) }
+    ensures cause { FailsOnlyFor S.Store store.old store.new result (booking_excuses (S.Store.view store.old) names.now draft.old bookings.now) }
 {
     let entered = enter_all(store, row, names, draft, &mut tally.filed, bookings);
     conclude(store, entered)
@@ -264,11 +266,11 @@ fn add_line<S: Alter>(
     name: &Bytes,
 ) -> Result<(), BooksError>
     requires { IsClean (S.Store.view store.old) → (S.Store.view store.old).shape 0 ≡ shapes.Table }
-    ensures put { OnOk result (IsClean (S.Store.view store.new) → SetsTree (S.Store.view store.old) (S.Store.view store.new) 0 (put_row (line (at + 1) name.now nothing))) }
+    ensures put { PutsRow S.Store store.old store.new result 0 (line (at + 1) name.now nothing) }
     ensures frame { OnOk result (IsClean (S.Store.view store.new) → OnlyWrites (S.Store.view store.old) (S.Store.view store.new)) }
     ensures keeps { Keeps (S.Store.view store.old) (S.Store.view store.new) }
     ensures quiet { IsQuiet S.Store.view S.Store.faults S.Store.recovers S.Store.is_shielded store.old store.new }
-    ensures cause { IsClean (S.Store.view store.new) → IfErr result (Because (S.Store.view store.old) (MoreFaults (S.Store.faults store.old) (S.Store.faults store.new)) (excuses ⊥ ⊥ ⊥ (¬ IsStorableRow ((S.Store.view store.old).reals 0) (line (at + 1) name.now nothing)))) }
+    ensures cause { FailsOnlyFor S.Store store.old store.new result (row_excuses ⊥ (S.Store.view store.old) 0 (line (at + 1) name.now nothing)) }
 {
     write_line(row, at, name, Amounts { claims: 0, dues: 0 })?;
     store.put(0, row)?;
@@ -287,11 +289,13 @@ pub(crate) fn commit_account<S: Alter>(
 ) -> Result<(), BooksError>
     requires holds { Holds (S.Store.view store.old) _starts names.now amounts.now (trail_in (S.Store.view store.old)) _tally }
     requires named { length names.now ≡ length amounts.now }
-    ensures holds { OnOk result (Holds (S.Store.view store.new) _starts (names.now ++ name.now ∷ []) (amounts.now ++ nothing ∷ []) (trail_in (S.Store.view store.old)) _tally) }
+    ensures holds { OnOk result (Holds (S.Store.view store.new) _starts
+        (names.now ++ name.now ∷ []) (amounts.now ++ nothing ∷ []) (trail_in (S.Store.view store.old)) _tally) }
     ensures stays_open { OnOk result (IsClean (S.Store.view store.new) → IsTrue (S.Store.view store.new).is_open) }
     ensures undone { OnErr result (Holds (S.Store.view store.new) _starts names.now amounts.now (trail_in (S.Store.view store.old)) _tally) }
-    ensures any_moment { IsClean (S.Store.view store.new) → (db : Trees) → S.Store.recovers store.new db → S.Store.recovers store.old db ⊎ AreBooks db _starts (names.now ++ name.now ∷ []) (amounts.now ++ nothing ∷ []) (trail_in (S.Store.view store.old)) }
-    ensures cause { IsClean (S.Store.view store.new) → IfErr result (Because (S.Store.view store.old) (MoreFaults (S.Store.faults store.old) (S.Store.faults store.new)) (name_excuses (S.Store.view store.old) names.now name.now)) }
+    ensures any_moment { RecoversTo S.Store store.old store.new _starts
+        (names.now ++ name.now ∷ []) (amounts.now ++ nothing ∷ []) (trail_in (S.Store.view store.old)) }
+    ensures cause { FailsOnlyFor S.Store store.old store.new result (name_excuses (S.Store.view store.old) names.now name.now) }
 {
     let entered = add_line(store, row, names.len(), name);
     conclude(store, entered)
@@ -299,10 +303,11 @@ pub(crate) fn commit_account<S: Alter>(
 
 /// Sets the count of starts.
 fn set_starts<S: Alter>(store: &mut S, starts: u32) -> Result<(), BooksError>
-    ensures set { OnOk result (IsClean (S.Store.view store.new) → SetsTree (S.Store.view store.old) (S.Store.view store.new) version_tree (λ _. version_rows starts)) }
+    ensures set { OnOk result (IsClean (S.Store.view store.new)
+        → SetsTree (S.Store.view store.old) (S.Store.view store.new) version_tree (λ _. version_rows starts)) }
     ensures keeps { IsClean (S.Store.view store.new) → Keeps (S.Store.view store.old) (S.Store.view store.new) }
     ensures quiet { IsQuiet S.Store.view S.Store.faults S.Store.recovers S.Store.is_shielded store.old store.new }
-    ensures cause { IsClean (S.Store.view store.new) → IfErr result (Because (S.Store.view store.old) (MoreFaults (S.Store.faults store.old) (S.Store.faults store.new)) no_excuse) }
+    ensures cause { FailsOnlyFor S.Store store.old store.new result no_excuse }
 {
     store.set_version(starts)?;
     Ok(())
@@ -321,8 +326,8 @@ pub(crate) fn commit_starts<S: Alter>(
     ensures holds { OnOk result (Holds (S.Store.view store.new) starts names.now amounts.now (trail_in (S.Store.view store.old)) _tally) }
     ensures stays_open { OnOk result (IsClean (S.Store.view store.new) → IsTrue (S.Store.view store.new).is_open) }
     ensures undone { OnErr result (Holds (S.Store.view store.new) _before names.now amounts.now (trail_in (S.Store.view store.old)) _tally) }
-    ensures any_moment { IsClean (S.Store.view store.new) → (db : Trees) → S.Store.recovers store.new db → S.Store.recovers store.old db ⊎ AreBooks db starts names.now amounts.now (trail_in (S.Store.view store.old)) }
-    ensures cause { IsClean (S.Store.view store.new) → IfErr result (Because (S.Store.view store.old) (MoreFaults (S.Store.faults store.old) (S.Store.faults store.new)) no_excuse) }
+    ensures any_moment { RecoversTo S.Store store.old store.new starts names.now amounts.now (trail_in (S.Store.view store.old)) }
+    ensures cause { FailsOnlyFor S.Store store.old store.new result no_excuse }
 {
     let entered = set_starts(store, starts);
     conclude(store, entered)

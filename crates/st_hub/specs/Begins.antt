@@ -29,11 +29,12 @@ EndsAt a stream ends.Stopped = ⊥
 EndsAt a stream ends.IvFault = ⊥
 EndsAt a stream ends.Turns = ⊥
 
--- what a worker finds at an end. If it continues it does what a step does. If it sends nothing the end and the hand are as they were
-abbrev pub FindsAt : {A : Type 0} → EndState → (hand : Option (List ℕ)) → (stream : ℕ) → (now : ℤ) → Begun A → EndState → (after : Option (List ℕ)) → Type 0
-FindsAt {A} a hand stream now (Sends t) b after = GoesOn a stream × Does {A = A} a hand stream now (step.Sends t) b after
-FindsAt {A} a hand stream now Idle b after = GoesOn a stream × Does {A = A} a hand stream now step.Idle b after
-FindsAt a hand stream now (Ends end) b after = EndsAt a stream end × (b ≡ a) × (after ≡ hand)
+-- what a worker finds at an end. If it continues it does what a step does. If it sends nothing the end and the spare IV are as they were
+abbrev pub FindsAt : {A : Type 0} → EndState → (spare_iv : Option (List ℕ)) → (stream : ℕ) → (now : ℤ)
+    → Begun A → EndState → (after : Option (List ℕ)) → Type 0
+FindsAt {A} a spare_iv stream now (Sends t) b after = GoesOn a stream × Does {A = A} a spare_iv stream now (step.Sends t) b after
+FindsAt {A} a spare_iv stream now Idle b after = GoesOn a stream × Does {A = A} a spare_iv stream now step.Idle b after
+FindsAt a spare_iv stream now (Ends end) b after = EndsAt a stream end × (b ≡ a) × (after ≡ spare_iv)
 
 -- items moved between a hub's rings and its end, and no share was touched
 pub record Moves {A : Type 0} (a b : Hub A) : Type 0 where
@@ -53,22 +54,24 @@ HadMemory Idle = Unit {0}
 HadMemory (Sends t) = Unit {0}
 
 -- what a worker finds at a hub, once each ring was tried. Apart from what was pumped, the hub changes as its end does
-pub record Finds {A : Type 0} (a : Hub A) (hand : Option (List ℕ)) (stream : ℕ) (now : ℤ) (found : Begun A) (b : Hub A) (after : Option (List ℕ)) : Type 0 where
+pub record Finds {A : Type 0} (a : Hub A) (spare_iv : Option (List ℕ)) (stream : ℕ) (now : ℤ)
+    (found : Begun A) (b : Hub A) (after : Option (List ℕ)) : Type 0 where
   pub pumped : Hub A
   pub moves : Moves a pumped
   pub tried : HadMemory found → AllTried a.flow a.known a.room pumped.flow
-  pub finds : FindsAt pumped.flow.core hand stream now found b.flow.core after
+  pub finds : FindsAt pumped.flow.core spare_iv stream now found b.flow.core after
   pub rest : b ≡ with_core pumped b.flow.core
 
 -- what a worker finds at a hub, as it was then
-abbrev pub FindsSome : {A : Type 0} → (hand : Option (List ℕ)) → (stream : ℕ) → (now : ℤ) → Begun A → (after : Option (List ℕ)) → Type 0
-FindsSome {A} hand stream now found after = (a b : Hub A) × Finds a hand stream now found b after
+abbrev pub FindsSome : {A : Type 0} → (spare_iv : Option (List ℕ)) → (stream : ℕ) → (now : ℤ) → Begun A → (after : Option (List ℕ)) → Type 0
+FindsSome {A} spare_iv stream now found after = (a b : Hub A) × Finds a spare_iv stream now found b after
 
 -- how a round begins: somebody asked to stop, and nothing was touched; or the worker read its clock once, and found this then at the hub
-abbrev pub Begins : {K A : Type 0} → (reads : K → ℤ → K → Type 0) → K → (hand : Option (List ℕ)) → (stream : ℕ) → Begun A → K → (after : Option (List ℕ)) → Type 0
-Begins {K} {A} reads clock hand stream found clock_after after =
-    ((found ≡ Ends ends.Stopped) × (clock_after ≡ clock) × (after ≡ hand))
-    ⊎ ((now : ℤ) × reads clock now clock_after × FindsSome {A = A} hand stream now found after)
+abbrev pub Begins : {K A : Type 0} → (reads : K → ℤ → K → Type 0) → K → (spare_iv : Option (List ℕ)) → (stream : ℕ)
+    → Begun A → K → (after : Option (List ℕ)) → Type 0
+Begins {K} {A} reads clock spare_iv stream found clock_after after =
+    ((found ≡ Ends ends.Stopped) × (clock_after ≡ clock) × (after ≡ spare_iv))
+    ⊎ ((now : ℤ) × reads clock now clock_after × FindsSome {A = A} spare_iv stream now found after)
 
 -- the bytes of an answer, if there is one
 abbrev pub bytes_back : Result (List ℕ) LinkFault → Option (List ℕ)
@@ -76,5 +79,6 @@ bytes_back (Ok answer) = Some answer
 bytes_back (Err fault) = None
 
 -- the bytes were sent over a link by its rule, and this is the link's outcome
-abbrev pub Exchanged : {L : Type 0} → (L → List ℕ → Result (List ℕ) LinkFault → L → Type 0) → L → (bytes : List ℕ) → Option (List ℕ) → L → Type 0
+abbrev pub Exchanged : {L : Type 0} → (L → List ℕ → Result (List ℕ) LinkFault → L → Type 0)
+    → L → (bytes : List ℕ) → Option (List ℕ) → L → Type 0
 Exchanged rule old bytes outcome new = (answer : Result (List ℕ) LinkFault) × rule old bytes answer new × (outcome ≡ bytes_back answer)

@@ -11,7 +11,8 @@ use Rattle.st_queues.specs.declared.lanes.ReadRing.{ReadRing}
 use Rattle.st_end.specs.State.{EndState}
 use Rattle.st_hub.specs.Flow.{Flow, Inlet, Outlet, inlet_at, outlet_at, has_end, has_last, AllTied}
 use Rattle.st_hub.specs.Handing.{AllPaired}
-use Rattle.st_hub.specs.Trying.{Beside, known_at, room_at, Longer, Fuller}
+use Rattle.st_hub.specs.Steps.{Flows}
+use Rattle.st_hub.specs.Trying.{Beside, known_at, room_at, Longer, Fuller, Tried, TriedRead}
 
 module _ {A : Type 0} where
   abbrev pub inlet_of : WriteRing A → Inlet A
@@ -28,6 +29,28 @@ module _ {A : Type 0} where
 
   abbrev pub room_of : ReadRing A → ℕ
   room_of x = free_of x.end
+
+  -- the same with these readers' rings, or with these writers'
+  abbrev pub with_outlets : EndState → List (WriteRing A) → List (Outlet A) → Flow A
+  with_outlets core writes outlets = record { core = core; inlets = map inlet_of writes; outlets = outlets }
+
+  abbrev pub with_inlets : EndState → List (ReadRing A) → List (Inlet A) → Flow A
+  with_inlets core reads inlets = record { core = core; inlets = inlets; outlets = map outlet_of reads }
+
+  -- what moves out of the writers' rings, whatever is in the readers'; and into the readers'
+  abbrev pub FlowsIn : EndState → List (WriteRing A) → EndState → List (WriteRing A) → Type 0
+  FlowsIn a ws b us = (outlets : List (Outlet A)) → Flows (with_outlets a ws outlets) (with_outlets b us outlets)
+
+  abbrev pub FlowsOut : EndState → List (ReadRing A) → EndState → List (ReadRing A) → Type 0
+  FlowsOut a rs b ts = (inlets : List (Inlet A)) → Flows (with_inlets a rs inlets) (with_inlets b ts inlets)
+
+  -- each writer's ring of the stream at this place was tried; and its reader's
+  abbrev pub TriesWriters : EndState → List (WriteRing A) → (place : ℕ) → EndState → List (WriteRing A) → Type 0
+  TriesWriters a ws s b us = (j : ℕ) → j < 8 → (outlets : List (Outlet A))
+      → Tried (with_outlets a ws outlets) (map known_of ws) s j (with_outlets b us outlets)
+
+  abbrev pub TriesReader : EndState → List (ReadRing A) → (place : ℕ) → EndState → List (ReadRing A) → Type 0
+  TriesReader a rs s b ts = (inlets : List (Inlet A)) → TriedRead (with_inlets a rs inlets) (map room_of rs) s (with_inlets b ts inlets)
 
   abbrev pub beside_of : EndState → List (WriteRing A) → List (ReadRing A) → Beside A
   beside_of core writes reads = record { flow = flow_of core writes reads; known = map known_of writes; room = map room_of reads }
@@ -71,7 +94,8 @@ module _ {A : Type 0} where
   AllReadLanes ring xs = (length xs ≡ 64) × ((k : ℕ) (x : ReadRing A) → slice_get xs k ≡ Some x → IsReadLane ring k x)
 
 -- the hub's end and rings fit: the rings are the hub's, and what passed through them is the end's
-pub record IsSound {A : Type 0} (write_ring read_ring : ℕ → RingId A) (core : EndState) (writes : List (WriteRing A)) (reads : List (ReadRing A)) : Type 0 where
+pub record IsSound {A : Type 0} (write_ring read_ring : ℕ → RingId A)
+    (core : EndState) (writes : List (WriteRing A)) (reads : List (ReadRing A)) : Type 0 where
   pub lanes : AllLanes write_ring writes
   pub read_lanes : AllReadLanes read_ring reads
   pub tied : AllTied (flow_of core writes reads)

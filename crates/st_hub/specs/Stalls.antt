@@ -16,9 +16,11 @@ pub record IsStalled (e : EndState) (stream : ℕ) : Type 0 where
   pub alone : in_flight e ≡ 0
   pub waits : waits e stream ≡ true
 
--- a Prepare is sent under the IV in hand, which is used up, and the `Turn` has the limit of its Blocked frame; otherwise the end and the
--- hand are as they were, and `Stalled` is returned exactly if the end is stalled
-abbrev pub Does : {A : Type 0} → EndState → (hand : Option (List ℕ)) → (stream : ℕ) → (now : ℤ) → Step A → EndState → (after : Option (List ℕ)) → Type 0
-Does a hand stream now (Sends t) b after = (iv : List ℕ) × (hand ≡ Some iv) × Goes a iv now t.flight t.bytes b × (after ≡ None) × (t.stops ≡ blocked_at b.sending.flights t.flight.sequence)
-Does a hand stream now Idle b after = GoesNone a × (¬ (IsStalled a stream)) × (b ≡ a) × (after ≡ hand)
-Does a hand stream now Stalled b after = IsStalled a stream × (b ≡ a) × (after ≡ hand)
+-- a Prepare is sent under the spare IV, which is used up, and the `Turn` has the limit of its Blocked frame; otherwise the end and the
+-- spare IV are as they were, and `Stalled` is returned exactly if the end is stalled
+abbrev pub Does : {A : Type 0} → EndState → (spare_iv : Option (List ℕ)) → (stream : ℕ) → (now : ℤ)
+    → Step A → EndState → (after : Option (List ℕ)) → Type 0
+Does a spare_iv stream now (Sends t) b after = (iv : List ℕ) × (spare_iv ≡ Some iv) × Goes a iv now t.flight t.bytes b × (after ≡ None)
+    × (t.stops ≡ blocked_at b.sending.flights t.flight.sequence)
+Does a spare_iv stream now Idle b after = GoesNone a × (¬ (IsStalled a stream)) × (b ≡ a) × (after ≡ spare_iv)
+Does a spare_iv stream now Stalled b after = IsStalled a stream × (b ≡ a) × (after ≡ spare_iv)

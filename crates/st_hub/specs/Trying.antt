@@ -64,7 +64,8 @@ module _ {A : Type 0} where
 
   -- a try to deliver to a ring into which ds was put: one more is, or a read gives nothing, or the last was put, or no room is
   -- known, or the end refuses to be read
-  abbrev pub StopsGiving : (number : ℕ) → EndState → (ds : List (Delivery A)) → Pumped → EndState → (us : List (Delivery A)) → (m : ℕ) → Type 0
+  abbrev pub StopsGiving : (number : ℕ) → EndState → (ds : List (Delivery A)) → Pumped → EndState
+      → (us : List (Delivery A)) → (m : ℕ) → Type 0
   StopsGiving k a ds Moved b us m = length ds + 1 ≤ length us
   StopsGiving k a ds Nothing b us m = (read a k read_limit ≡ (Ok reading.Nothing, b)) × (us ≡ ds)
   StopsGiving k a ds Stuck b us m = (us ≡ ds) × ((has_last us ≡ true) ⊎ (m ≡ 0) ⊎ ((why : EndError) × (read a k read_limit ≡ (Err why, a))))

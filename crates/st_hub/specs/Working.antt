@@ -76,38 +76,47 @@ told_in (Some x) = waits_of x.stops ++ fails_of x.cause
 abbrev pub told_of : List Turned → List Event
 told_of ts = flat_map (λ (t : Turned). told_in t.sent) ts
 
--- the IV in hand, if there is one
-abbrev pub in_hand : Option (List ℕ) → List (List ℕ)
-in_hand None = []
-in_hand (Some iv) = iv ∷ []
+-- the spare IV, if there is one
+abbrev pub spare_ivs : Option (List ℕ) → List (List ℕ)
+spare_ivs None = []
+spare_ivs (Some iv) = iv ∷ []
 
--- an IV is in hand after this: the one that was, or, if there was none, the next one that the source gave
+-- there is a spare IV after this: the one that was, or, if there was none, the next one that the source gave
 abbrev pub Fills : {I : Type 0} → (I → List ℕ → I → Type 0) → I → Option (List ℕ) → I → Option (List ℕ) → Type 0
-Fills gives a hand b after = (iv : List ℕ) × (after ≡ Some iv) × (((hand ≡ Some iv) × (b ≡ a)) ⊎ ((hand ≡ None) × gives a iv b))
+Fills gives a spare_iv b after = (iv : List ℕ) × (after ≡ Some iv) × (((spare_iv ≡ Some iv) × (b ≡ a)) ⊎ ((spare_iv ≡ None) × gives a iv b))
 
 -- a worker made `count` rounds, each at a time that it read from its clock. What the source gave are the IVs of the packets that were sent,
--- in their order, and after them the one in hand: no IV serves twice. These packets were reported to the observer, and nothing else
-pub record Works {I L K W : Type 0} (gives : I → List ℕ → I → Type 0) (exchanges : L → List ℕ → Result (List ℕ) LinkFault → L → Type 0) (reads : K → ℤ → K → Type 0) (hears : W → Event → W → Type 0) (old : Around I L K W) (count : ℕ) (hand : Option (List ℕ)) (new : Around I L K W) : Type 0 where
+-- in their order, and after them the spare one: no IV serves twice. These packets were reported to the observer, and nothing else
+pub record Works {I L K W : Type 0}
+    (gives : I → List ℕ → I → Type 0) (exchanges : L → List ℕ → Result (List ℕ) LinkFault → L → Type 0)
+    (reads : K → ℤ → K → Type 0) (hears : W → Event → W → Type 0)
+    (old : Around I L K W) (count : ℕ) (spare_iv : Option (List ℕ)) (new : Around I L K W) : Type 0 where
   pub turns : List Turned
   pub counted : length turns ≡ count
-  pub gave : Gave gives old.ivs (ivs_of turns ++ in_hand hand) new.ivs
+  pub gave : Gave gives old.ivs (ivs_of turns ++ spare_ivs spare_iv) new.ivs
   pub went : Went exchanges old.link turns new.link
   pub read : Gave reads old.clock (map (λ (t : Turned). t.now) turns) new.clock
   pub told : Gave hears old.watch (told_of turns) new.watch
 
 -- why a worker ended after `made` rounds of at most `most`, and what it took since: the source gave no IV; or all rounds were made; or
 -- somebody asked to stop; or it read its clock once more, and then found a reason at an end
-pub data EndsBy {I L K W : Type 0} (reads : K → ℤ → K → Type 0) (stream : ℕ) (made most : ℕ) (hand : Option (List ℕ)) (old : Around I L K W) (end : WorkEnd) (new : Around I L K W) : Type 0 where
-  no_iv : end ≡ IvFault → hand ≡ None → new ≡ record old { ivs = new.ivs } → EndsBy reads stream made most hand old end new
-  all_turns : end ≡ Turns → made ≡ most → new ≡ old → EndsBy reads stream made most hand old end new
-  stopped : end ≡ Stopped → new ≡ old → EndsBy reads stream made most hand old end new
-  found : (now : ℤ) (e : EndState) → reads old.clock now new.clock → EndsAt e stream end → new ≡ record old { clock = new.clock } → EndsBy reads stream made most hand old end new
+pub data EndsBy {I L K W : Type 0}
+    (reads : K → ℤ → K → Type 0) (stream : ℕ) (made most : ℕ) (spare_iv : Option (List ℕ))
+    (old : Around I L K W) (end : WorkEnd) (new : Around I L K W) : Type 0 where
+  no_iv : end ≡ IvFault → spare_iv ≡ None → new ≡ record old { ivs = new.ivs } → EndsBy reads stream made most spare_iv old end new
+  all_turns : end ≡ Turns → made ≡ most → new ≡ old → EndsBy reads stream made most spare_iv old end new
+  stopped : end ≡ Stopped → new ≡ old → EndsBy reads stream made most spare_iv old end new
+  found : (now : ℤ) (e : EndState) → reads old.clock now new.clock → EndsAt e stream end → new ≡ record old { clock = new.clock }
+      → EndsBy reads stream made most spare_iv old end new
 
 -- a worker made some rounds, at most `most`, and ended
-pub record WorkedTo {I L K W : Type 0} (gives : I → List ℕ → I → Type 0) (exchanges : L → List ℕ → Result (List ℕ) LinkFault → L → Type 0) (reads : K → ℤ → K → Type 0) (hears : W → Event → W → Type 0) (stream : ℕ) (most : ℕ) (old : Around I L K W) (end : WorkEnd) (new : Around I L K W) : Type 0 where
+pub record WorkedTo {I L K W : Type 0}
+    (gives : I → List ℕ → I → Type 0) (exchanges : L → List ℕ → Result (List ℕ) LinkFault → L → Type 0)
+    (reads : K → ℤ → K → Type 0) (hears : W → Event → W → Type 0)
+    (stream : ℕ) (most : ℕ) (old : Around I L K W) (end : WorkEnd) (new : Around I L K W) : Type 0 where
   pub made : ℕ
   pub few : made ≤ most
-  pub hand : Option (List ℕ)
+  pub spare_iv : Option (List ℕ)
   pub last : Around I L K W
-  pub works : Works gives exchanges reads hears old made hand last
-  pub ends : EndsBy reads stream made most hand last end new
+  pub works : Works gives exchanges reads hears old made spare_iv last
+  pub ends : EndsBy reads stream made most spare_iv last end new

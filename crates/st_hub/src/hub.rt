@@ -51,7 +51,8 @@ impl<N: HubName<A>, A: Allocator + Copy> Model for HubState<N, A> {
 
     ghost view = { λ h. record { flow = h.streams.flow; known = h.streams.known; room = h.streams.room; out = h.out; kept = h.spare.amount } };
 
-    ghost invariant = { λ h. (h.seat ≡ shown_of h.streams.flow.core) × (h.credit.total ≡ h.streams.flow.core.receiving.credit) × (h.spare.parts + h.out ≡ 64) × (h.out < 64) × (N.parts ≡ 64) };
+    ghost invariant = { λ h. (h.seat ≡ shown_of h.streams.flow.core) × (h.credit.total ≡ h.streams.flow.core.receiving.credit)
+        × (h.spare.parts + h.out ≡ 64) × (h.out < 64) × (N.parts ≡ 64) };
 }
 
 /// Publishes what the end did by now.

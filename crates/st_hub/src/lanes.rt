@@ -49,10 +49,12 @@ pub(crate) fn ends<N: HubName<A>, A: Allocator + Copy>(
     place: usize,
 ) -> (StreamWriter<N, A>, StreamReader<N, A>)
     requires lanes { AllLanes N.write_ring writes.old.items × AllReadLanes N.read_ring reads.old.items × (place < 64) }
-    requires held { ((inlet_at (map inlet_of writes.old.items) (8 * place)).out ≡ false) × ((outlet_at (map outlet_of reads.old.items) place).out ≡ false) }
+    requires held { ((inlet_at (map inlet_of writes.old.items) (8 * place)).out ≡ false)
+        × ((outlet_at (map outlet_of reads.old.items) place).out ≡ false) }
     ensures lanes { AllLanes N.write_ring writes.new.items × AllReadLanes N.read_ring reads.new.items }
     ensures fresh { IsFreshWriter (8 * place) result.0 × IsFreshReader place result.1 }
-    ensures out { (map inlet_of writes.new.items ≡ writer_out (map inlet_of writes.old.items) (8 * place)) × (map outlet_of reads.new.items ≡ reader_out (map outlet_of reads.old.items) place) }
+    ensures out { (map inlet_of writes.new.items ≡ writer_out (map inlet_of writes.old.items) (8 * place))
+        × (map outlet_of reads.new.items ≡ reader_out (map outlet_of reads.old.items) place) }
 {
     let Some(writer) = writer::<N, A>(alloc, writes, 8 * place) else {
         unreachable!();
@@ -70,8 +72,10 @@ pub(crate) fn first_left<A: Allocator + Copy>(
 ) -> Option<u8>
     requires { length reads.now.items ≡ 64 }
     ensures found { IfSome result (λ s. (s < 64) × (has_stream core.now (s + 1) ≡ true) × ((outlet_at (map outlet_of reads.now.items) s).out ≡ false)) }
-    ensures lowest { IfSome result (λ s. (t : ℕ) → t < s → has_stream core.now (t + 1) ≡ true → (outlet_at (map outlet_of reads.now.items) t).out ≡ true) }
-    ensures none { IfNone result ((t : ℕ) → t < 64 → has_stream core.now (t + 1) ≡ true → (outlet_at (map outlet_of reads.now.items) t).out ≡ true) }
+    ensures lowest { IfSome result (λ s. (t : ℕ) → t < s
+        → has_stream core.now (t + 1) ≡ true → (outlet_at (map outlet_of reads.now.items) t).out ≡ true) }
+    ensures none { IfNone result ((t : ℕ) → t < 64
+        → has_stream core.now (t + 1) ≡ true → (outlet_at (map outlet_of reads.now.items) t).out ≡ true) }
 {
     for place in 0..64u8 {
         if is_left(core, reads, place) {

@@ -4,12 +4,12 @@ ghost use Rattle.std.specs.Prelude.{◌≡◌, ℕ, ◌+◌, ◌*◌, ◌<◌, t
 ghost use Rattle.st_end.specs.Calls as calls;
 ghost use Rattle.st_queues.specs.WriteEnds.{taken, known, SameWriteEnd};
 ghost use Rattle.st_queues.specs.ReadEnds.{put_in, free_of, SameReadEnd};
-ghost use Rattle.st_hub.specs.Flow.{Inlet, Outlet, inlet_at, has_end, has_last, is_writing};
+ghost use Rattle.st_hub.specs.Flow.{inlet_at, has_end, has_last, is_writing};
 ghost use Rattle.st_hub.specs.Handing.{NoOther, SomeOther};
 ghost use Rattle.st_hub.specs.Steps.{Flows};
 ghost use Rattle.st_hub.specs.Moving.{ClosesIf, AfterTake, AfterGive};
 ghost use Rattle.st_hub.specs.Trying.{HadMemory, Longer, Stops, Fuller, StopsGiving, Found, Tried, TriedRead, AllTried};
-ghost use Rattle.st_hub.specs.Inside.{inlet_of, outlet_of, known_of, room_of, flow_of, taken_at, stands_at, put_at, free_at, Grow, Fill, AllLanes, AllReadLanes};
+ghost use Rattle.st_hub.specs.Inside.{inlet_of, known_of, room_of, flow_of, FlowsIn, FlowsOut, TriesWriters, TriesReader, taken_at, stands_at, put_at, free_at, Grow, Fill, AllLanes, AllReadLanes};
 
 use st_end::{EndError, EndState};
 use st_queues::{Delivery, HubName, Item, ROOM, ReadRing, STREAMS, WRITERS, WriteRing};
@@ -176,9 +176,10 @@ fn take_one<N: HubName<A>, A: Allocator + Copy>(
 ) -> Pumped
     requires { AllLanes N.write_ring writes.old.items × (place < 64) × (writer < 8) }
     ensures lanes { AllLanes N.write_ring writes.new.items }
-    ensures flows { (outlets : List (Outlet A)) → Flows (record { core = core.old; inlets = map inlet_of writes.old.items; outlets = outlets }) (record { core = core.new; inlets = map inlet_of writes.new.items; outlets = outlets }) }
+    ensures flows { FlowsIn core.old writes.old.items core.new writes.new.items }
     ensures grows { Grow writes.old.items writes.new.items }
-    ensures stops { Stops (place + 1) result (taken_at writes.old.items (8 * place + writer)) core.new (taken_at writes.new.items (8 * place + writer)) (stands_at writes.new.items (8 * place + writer)) }
+    ensures stops { Stops (place + 1) result (taken_at writes.old.items (8 * place + writer)) core.new
+        (taken_at writes.new.items (8 * place + writer)) (stands_at writes.new.items (8 * place + writer)) }
 {
     let last = is_last::<N, A>(writes, place, writer);
     let lane = &mut writes[8 * place + writer];
@@ -193,9 +194,10 @@ fn give_one<N: HubName<A>, A: Allocator + Copy>(
 ) -> Pumped
     requires { AllReadLanes N.read_ring reads.old.items × (place < 64) }
     ensures lanes { AllReadLanes N.read_ring reads.new.items }
-    ensures flows { (inlets : List (Inlet A)) → Flows (record { core = core.old; inlets = inlets; outlets = map outlet_of reads.old.items }) (record { core = core.new; inlets = inlets; outlets = map outlet_of reads.new.items }) }
+    ensures flows { FlowsOut core.old reads.old.items core.new reads.new.items }
     ensures fills { Fill reads.old.items reads.new.items }
-    ensures stops { StopsGiving (place + 1) core.old (put_at reads.old.items place) result core.new (put_at reads.new.items place) (free_at reads.new.items place) }
+    ensures stops { StopsGiving (place + 1) core.old (put_at reads.old.items place) result core.new (put_at reads.new.items place)
+        (free_at reads.new.items place) }
 {
     let lane = &mut reads[place];
     give_first(core, lane, place as u8 + 1)
@@ -210,9 +212,11 @@ fn take_ring<N: HubName<A>, A: Allocator + Copy>(
 ) -> Pumped
     requires { AllLanes N.write_ring writes.old.items × (place < 64) × (writer < 8) }
     ensures lanes { AllLanes N.write_ring writes.new.items }
-    ensures flows { (outlets : List (Outlet A)) → Flows (record { core = core.old; inlets = map inlet_of writes.old.items; outlets = outlets }) (record { core = core.new; inlets = map inlet_of writes.new.items; outlets = outlets }) }
+    ensures flows { FlowsIn core.old writes.old.items core.new writes.new.items }
     ensures grows { Grow writes.old.items writes.new.items }
-    ensures found { HadMemory result → Found core.new (place + 1) (taken_at writes.old.items (8 * place + writer)) (stands_at writes.old.items (8 * place + writer)) (taken_at writes.new.items (8 * place + writer)) }
+    ensures found { HadMemory result
+        → Found core.new (place + 1) (taken_at writes.old.items (8 * place + writer)) (stands_at writes.old.items (8 * place + writer))
+        (taken_at writes.new.items (8 * place + writer)) }
 {
     for _ in 0..ROOM {
         match take_one::<N, A>(core, writes, place, writer) {
@@ -231,9 +235,9 @@ fn take_stream<N: HubName<A>, A: Allocator + Copy>(
 ) -> Pumped
     requires { AllLanes N.write_ring writes.old.items × (place < 64) }
     ensures lanes { AllLanes N.write_ring writes.new.items }
-    ensures flows { (outlets : List (Outlet A)) → Flows (record { core = core.old; inlets = map inlet_of writes.old.items; outlets = outlets }) (record { core = core.new; inlets = map inlet_of writes.new.items; outlets = outlets }) }
+    ensures flows { FlowsIn core.old writes.old.items core.new writes.new.items }
     ensures grows { Grow writes.old.items writes.new.items }
-    ensures tried { HadMemory result → (j : ℕ) → j < 8 → (outlets : List (Outlet A)) → Tried (record { core = core.old; inlets = map inlet_of writes.old.items; outlets = outlets }) (map known_of writes.old.items) place j (record { core = core.new; inlets = map inlet_of writes.new.items; outlets = outlets }) }
+    ensures tried { HadMemory result → TriesWriters core.old writes.old.items place core.new writes.new.items }
 {
     for writer in 0..usize::from(WRITERS) {
         if let Pumped::NoMemory = take_ring::<N, A>(core, writes, place, writer) {
@@ -251,9 +255,9 @@ fn give_stream<N: HubName<A>, A: Allocator + Copy>(
 ) -> Pumped
     requires { AllReadLanes N.read_ring reads.old.items × (place < 64) }
     ensures lanes { AllReadLanes N.read_ring reads.new.items }
-    ensures flows { (inlets : List (Inlet A)) → Flows (record { core = core.old; inlets = inlets; outlets = map outlet_of reads.old.items }) (record { core = core.new; inlets = inlets; outlets = map outlet_of reads.new.items }) }
+    ensures flows { FlowsOut core.old reads.old.items core.new reads.new.items }
     ensures fills { Fill reads.old.items reads.new.items }
-    ensures tried { HadMemory result → (inlets : List (Inlet A)) → TriedRead (record { core = core.old; inlets = inlets; outlets = map outlet_of reads.old.items }) (map room_of reads.old.items) place (record { core = core.new; inlets = inlets; outlets = map outlet_of reads.new.items }) }
+    ensures tried { HadMemory result → TriesReader core.old reads.old.items place core.new reads.new.items }
 {
     for _ in 0..ROOM {
         match give_one::<N, A>(core, reads, place) {
@@ -276,8 +280,12 @@ fn pump_stream<N: HubName<A>, A: Allocator + Copy>(
     ensures lanes { AllLanes N.write_ring writes.new.items × AllReadLanes N.read_ring reads.new.items }
     ensures flows { Flows (flow_of core.old writes.old.items reads.old.items) (flow_of core.new writes.new.items reads.new.items) }
     ensures grows { Grow writes.old.items writes.new.items × Fill reads.old.items reads.new.items }
-    ensures tried { HadMemory result → calls.has_stream core.old (place + 1) ≡ true → (j : ℕ) → j < 8 → Tried (flow_of core.old writes.old.items reads.old.items) (map known_of writes.old.items) place j (flow_of core.new writes.new.items reads.new.items) }
-    ensures read { HadMemory result → calls.has_stream core.old (place + 1) ≡ true → TriedRead (flow_of core.old writes.old.items reads.old.items) (map room_of reads.old.items) place (flow_of core.new writes.new.items reads.new.items) }
+    ensures tried { HadMemory result → calls.has_stream core.old (place + 1) ≡ true → (j : ℕ) → j < 8
+        → Tried (flow_of core.old writes.old.items reads.old.items) (map known_of writes.old.items) place j
+        (flow_of core.new writes.new.items reads.new.items) }
+    ensures read { HadMemory result → calls.has_stream core.old (place + 1) ≡ true
+        → TriedRead (flow_of core.old writes.old.items reads.old.items) (map room_of reads.old.items) place
+        (flow_of core.new writes.new.items reads.new.items) }
 {
     if !core.has_stream(place as u8 + 1) {
         return Pumped::Nothing;
@@ -297,7 +305,9 @@ pub(crate) fn pump<N: HubName<A>, A: Allocator + Copy>(
     requires { AllLanes N.write_ring writes.old.items × AllReadLanes N.read_ring reads.old.items }
     ensures lanes { AllLanes N.write_ring writes.new.items × AllReadLanes N.read_ring reads.new.items }
     ensures flows { Flows (flow_of core.old writes.old.items reads.old.items) (flow_of core.new writes.new.items reads.new.items) }
-    ensures tried { HadMemory result → AllTried (flow_of core.old writes.old.items reads.old.items) (map known_of writes.old.items) (map room_of reads.old.items) (flow_of core.new writes.new.items reads.new.items) }
+    ensures tried { HadMemory result
+        → AllTried (flow_of core.old writes.old.items reads.old.items) (map known_of writes.old.items) (map room_of reads.old.items)
+        (flow_of core.new writes.new.items reads.new.items) }
 {
     for place in 0..usize::from(STREAMS) {
         if let Pumped::NoMemory = pump_stream::<N, A>(core, writes, reads, place) {

@@ -126,7 +126,8 @@ impl<N: HubName<A>, A: Allocator + Copy> Streams<N, A> {
         now: Moment,
     ) -> Result<Option<(Flight, Vec<u8, A>)>, EndError>
         ensures only_memory { IsOkUnless result EndError.NoMemory }
-        ensures goes { IfOk result (λ sent. MatchOption sent (GoesNone self.old.flow.core × (self.new.flow.core ≡ self.old.flow.core)) (λ x. Goes self.old.flow.core iv now x.0 x.1.items self.new.flow.core)) }
+        ensures goes { IfOk result (λ sent. MatchOption sent (GoesNone self.old.flow.core × (self.new.flow.core ≡ self.old.flow.core))
+            (λ x. Goes self.old.flow.core iv now x.0 x.1.items self.new.flow.core)) }
         ensures unchanged { OnErr result (self.new.flow.core ≡ self.old.flow.core) }
         ensures keeps { Keeps 0 self.old.flow.core self.new.flow.core }
         ensures rest { self.new ≡ with_end self.old self.new.flow.core }

@@ -17,7 +17,7 @@ ghost use Rattle.st_hub.specs.declared.error.HubError.TheVariants.{NoShareLeft, 
 use crate::error::HubError;
 use crate::hub::{HubState, publish};
 use st_end::{EndError, EndState, Flight, Received};
-use st_ilp::Moment;
+use st_ilp::{Moment, read_prepare};
 use st_links::Outcome;
 use st_queues::HubName;
 use st_sender::Blocked;
@@ -31,6 +31,9 @@ pub const SHARES: u64 = 63;
 
 /// For how many milliseconds a Prepare lives, as `EndState::send` makes it.
 const LIFE: i64 = 30_000;
+
+/// The most bytes of a stream that one frame of a Prepare has.
+const FRAME_BYTES: usize = 16_000;
 
 /// The moment at which a Prepare expires that is made now.
 fn after(now: Moment) -> Moment
@@ -119,6 +122,19 @@ impl<A: Allocator + Copy> Turn<A> {
         self.stops
     }
 
+    /// Whether more may be due after it: it pays an amount, or it has the length of a full frame of data. Otherwise it
+    /// carries all that could be sent.
+    pub(crate) fn may_leave_more(&self) -> bool {
+        let bytes = self.bytes.as_slice();
+        if bytes.len() >= FRAME_BYTES {
+            return true;
+        }
+        match read_prepare(bytes) {
+            Ok(prepare) => prepare.amount > 0,
+            Err(_) => false,
+        }
+    }
+
     /// Gives the `Turn` up, if its answer will not be processed. What the Prepare carries stays in flight. Does not
     /// allocate.
     pub fn abandon(self) {
@@ -185,7 +201,8 @@ impl<N: HubName<A>, A: Allocator + Copy> HubState<N, A> {
     /// Fails with `NoMemory` if memory is refused, and for no other reason; then nothing has changed.
     pub fn take_turn(&mut self, iv: [u8; 12], now: Moment) -> Result<Option<Turn<A>>, HubError>
         ensures only_memory { IsOkUnless result NoMemory }
-        ensures goes { IfOk result (λ sent. MatchOption sent (GoesNone self.old.flow.core × (self.new.flow.core ≡ self.old.flow.core)) (λ t. Goes self.old.flow.core iv now t.flight t.bytes self.new.flow.core)) }
+        ensures goes { IfOk result (λ sent. MatchOption sent (GoesNone self.old.flow.core × (self.new.flow.core ≡ self.old.flow.core))
+            (λ t. Goes self.old.flow.core iv now t.flight t.bytes self.new.flow.core)) }
         ensures stops { IfOk result (λ sent. IfSome sent (λ t. t.stops ≡ blocked_at self.new.flow.core.sending.flights t.flight.sequence)) }
         ensures unchanged { OnErr result (self.new.flow.core ≡ self.old.flow.core) }
         ensures rest { self.new ≡ with_core self.old self.new.flow.core }
@@ -217,29 +234,29 @@ impl<N: HubName<A>, A: Allocator + Copy> HubState<N, A> {
     }
 
     /// Makes one step of a worker at the time `now`. It returns the next Prepare as `take_turn` does, under the IV in
-    /// `hand`, which is to be there; that IV is then used up, and `hand` is `None`. If nothing can be sent, `hand`
+    /// `spare_iv`, which is to be there; that IV is then used up, and `spare_iv` is `None`. If nothing can be sent, `spare_iv`
     /// keeps its IV, and the step is `Stalled` exactly if nothing is in flight and `stream` still waits: bytes that it
     /// accepted are not acknowledged, or its close is not fulfilled. `stream` 0 never waits.
     ///
     /// Fails with `NoMemory` if memory is refused, and for no other reason; then nothing has changed.
     pub fn step(
         &mut self,
-        hand: &mut Option<[u8; 12]>,
+        spare_iv: &mut Option<[u8; 12]>,
         stream: u8,
         now: Moment,
     ) -> Result<Step<A>, HubError>
-        requires hand { is_some hand.old ≡ true }
+        requires spare_iv { is_some spare_iv.old ≡ true }
         ensures only_memory { IsOkUnless result NoMemory }
-        ensures does { IfOk result (λ step. Does self.old.flow.core hand.old stream now step self.new.flow.core hand.new) }
-        ensures unchanged { OnErr result ((self.new.flow.core ≡ self.old.flow.core) × (hand.new ≡ hand.old)) }
+        ensures does { IfOk result (λ step. Does self.old.flow.core spare_iv.old stream now step self.new.flow.core spare_iv.new) }
+        ensures unchanged { OnErr result ((self.new.flow.core ≡ self.old.flow.core) × (spare_iv.new ≡ spare_iv.old)) }
         ensures rest { self.new ≡ with_core self.old self.new.flow.core }
     {
-        let Some(iv) = *hand else {
+        let Some(iv) = *spare_iv else {
             unreachable!();
         };
         match self.take_turn(iv, now) {
             Ok(Some(turn)) => {
-                *hand = None;
+                *spare_iv = None;
                 Ok(Step::Sends(turn))
             }
             Ok(None) => {
@@ -259,7 +276,8 @@ impl<N: HubName<A>, A: Allocator + Copy> HubState<N, A> {
     ///
     /// Fails with `Stranger` if the `Turn` is not open at this hub. Then nothing has changed, and the `Turn` is spent.
     pub fn finish_turn(&mut self, turn: Turn<A>, outcome: Outcome<A>) -> Result<bool, HubError>
-        ensures finished { IfOk result (λ _. (sending.is_open self.old.flow.core turn.flight ≡ true) × (self.new.flow.core ≡ ended self.old.flow.core turn.flight (outcome_seen outcome))) }
+        ensures finished { IfOk result (λ _. (sending.is_open self.old.flow.core turn.flight ≡ true)
+            × (self.new.flow.core ≡ ended self.old.flow.core turn.flight (outcome_seen outcome))) }
         ensures paid { IfOk result (λ paid. paid ≡ pays turn.flight (outcome_seen outcome)) }
         ensures stranger { IfErr result (λ e. (e ≡ Stranger) × (sending.is_open self.old.flow.core turn.flight ≡ false) × (self.new ≡ self.old)) }
         ensures rest { self.new ≡ with_core self.old self.new.flow.core }

@@ -58,7 +58,7 @@ pub enum WorkEnd {
 pub struct Worker<'w, N: HubName<A>, A: Allocator + Copy, L, I, K, W> {
     /// The link over which it exchanges.
     pub link: &'w mut L,
-    /// The source of its IVs. One is read only if none is in hand.
+    /// The source of its IVs. One is read only if none is spare.
     pub ivs: &'w mut I,
     /// The clock that gives the moment of each Send.
     pub clock: &'w mut K,
@@ -89,12 +89,12 @@ enum Begun<A: Allocator + Copy> {
 /// What a worker does with a hub of which all was pumped.
 fn find<N: HubName<A>, A: Allocator + Copy>(
     state: &mut HubState<N, A>,
-    hand: &mut Option<[u8; 12]>,
+    spare_iv: &mut Option<[u8; 12]>,
     stream: u8,
     now: Moment,
 ) -> Begun<A>
-    requires { is_some hand.old ≡ true }
-    ensures finds { FindsAt state.old.flow.core hand.old stream now result state.new.flow.core hand.new }
+    requires { is_some spare_iv.old ≡ true }
+    ensures finds { FindsAt state.old.flow.core spare_iv.old stream now result state.new.flow.core spare_iv.new }
     ensures rest { state.new ≡ with_core state.old state.new.flow.core }
 {
     if state.is_failed() {
@@ -103,7 +103,7 @@ fn find<N: HubName<A>, A: Allocator + Copy>(
     if state.settled(stream) {
         return Begun::Ends(WorkEnd::Settled);
     }
-    match state.step(hand, stream, now) {
+    match state.step(spare_iv, stream, now) {
         Ok(Step::Sends(turn)) => Begun::Sends(turn),
         Ok(Step::Idle) => Begun::Idle,
         Ok(Step::Stalled) => Begun::Ends(WorkEnd::Stalled),
@@ -115,12 +115,12 @@ fn find<N: HubName<A>, A: Allocator + Copy>(
 fn look<N: HubName<A>, A: Allocator + Copy>(
     bench: &Bench<N, A>,
     state: &mut HubState<N, A>,
-    hand: &mut Option<[u8; 12]>,
+    spare_iv: &mut Option<[u8; 12]>,
     stream: u8,
     now: Moment,
 ) -> Begun<A>
-    requires { is_some hand.old ≡ true }
-    ensures { Finds state.old hand.old stream now result state.new hand.new }
+    requires { is_some spare_iv.old ≡ true }
+    ensures { Finds state.old spare_iv.old stream now result state.new spare_iv.new }
 {
     let before = state.totals().accepted;
     let pumped = state.pump();
@@ -130,7 +130,7 @@ fn look<N: HubName<A>, A: Allocator + Copy>(
     if pumped.is_err() {
         return Begun::Ends(WorkEnd::NoMemory);
     }
-    find(state, hand, stream, now)
+    find(state, spare_iv, stream, now)
 }
 
 /// Tries once more, so that no wake-up is lost, and sleeps if there is still nothing to do.
@@ -138,17 +138,17 @@ fn look_again<N: HubName<A>, A: Allocator + Copy, R: Wait + std::time::Clock>(
     rt: &R,
     bench: &Bench<N, A>,
     state: MutexGuard<'_, HubState<N, A>>,
-    hand: &mut Option<[u8; 12]>,
+    spare_iv: &mut Option<[u8; 12]>,
     stream: u8,
     now: Moment,
     rest: Duration,
 ) -> Begun<A>
-    requires { is_some hand.old ≡ true }
-    ensures { FindsSome hand.old stream now result hand.new }
+    requires { is_some spare_iv.old ≡ true }
+    ensures { FindsSome spare_iv.old stream now result spare_iv.new }
 {
     let mut state = state;
     bench.idle.fetch_add(1, Ordering::SeqCst);
-    let begun = look(bench, &mut *state, hand, stream, now);
+    let begun = look(bench, &mut *state, spare_iv, stream, now);
     if let Begun::Idle = &begun {
         let _held = bench.woken.wait_timeout(rt, state, rest);
     }
@@ -177,31 +177,33 @@ fn pass_gate<'b, N: HubName<A>, A: Allocator + Copy, R: Wait + std::time::Clock>
 }
 
 /// Begins a round, at the time at which the gate lets it through. If there is nothing to send it sleeps for at most
-/// `rest`.
+/// `rest`. It wakes another worker only if more may be due.
 fn begin<N: HubName<A>, A: Allocator + Copy, K: Clock, R: Wait + std::time::Clock>(
     rt: &R,
     bench: &Bench<N, A>,
     gauge: &Gauge<N, A>,
     seat: &mut GaugeSeat<N, A>,
-    hand: &mut Option<[u8; 12]>,
+    spare_iv: &mut Option<[u8; 12]>,
     stream: u8,
     clock: &mut K,
     rest: Duration,
 ) -> Begun<A>
-    requires { is_some hand.old ≡ true }
-    ensures { Begins K.reads clock.old hand.old stream result clock.new hand.new }
+    requires { is_some spare_iv.old ≡ true }
+    ensures { Begins K.reads clock.old spare_iv.old stream result clock.new spare_iv.new }
 {
     let Some(mut state) = pass_gate(rt, bench, gauge, seat) else {
         return Begun::Ends(WorkEnd::Stopped);
     };
     let now = clock.now();
-    match look(bench, &mut *state, hand, stream, now) {
+    match look(bench, &mut *state, spare_iv, stream, now) {
         Begun::Sends(turn) => {
             bench.gate.lock(rt).begins(rt);
-            bench.woken.notify_one();
+            if turn.may_leave_more() {
+                bench.woken.notify_one();
+            }
             Begun::Sends(turn)
         }
-        Begun::Idle => look_again(rt, bench, state, hand, stream, now, rest),
+        Begun::Idle => look_again(rt, bench, state, spare_iv, stream, now, rest),
         Begun::Ends(end) => Begun::Ends(end),
     }
 }
@@ -253,14 +255,14 @@ fn exchange<A: Allocator + Copy, L: Link<A>>(link: &mut L, turn: &Turn<A>) -> Ou
     }
 }
 
-/// Reads an IV from the source if none is in hand. Returns whether one is in hand then.
-fn fill<I: Ivs>(ivs: &mut I, hand: &mut Option<[u8; 12]>) -> bool
-    ensures { MatchBool result (Fills I.gives ivs.old hand.old ivs.new hand.new) ((hand.old ≡ None) × (hand.new ≡ None)) }
+/// Reads an IV from the source if none is spare. Returns whether one is spare then.
+fn fill<I: Ivs>(ivs: &mut I, spare_iv: &mut Option<[u8; 12]>) -> bool
+    ensures { MatchBool result (Fills I.gives ivs.old spare_iv.old ivs.new spare_iv.new) ((spare_iv.old ≡ None) × (spare_iv.new ≡ None)) }
 {
-    if hand.is_none() {
-        *hand = ivs.next_iv();
+    if spare_iv.is_none() {
+        *spare_iv = ivs.next_iv();
     }
-    hand.is_some()
+    spare_iv.is_some()
 }
 
 /// Makes the rounds of a worker.
@@ -289,12 +291,12 @@ fn make_turns<
         rest,
         turns,
     } = worker;
-    let mut hand = None;
+    let mut spare_iv = None;
     for _ in 0..turns {
-        if !fill(ivs, &mut hand) {
+        if !fill(ivs, &mut spare_iv) {
             return WorkEnd::IvFault;
         }
-        match begin(rt, bench, gauge, seat, &mut hand, stream, clock, rest) {
+        match begin(rt, bench, gauge, seat, &mut spare_iv, stream, clock, rest) {
             Begun::Sends(turn) => {
                 tell_limit(watch, &turn);
                 let outcome = exchange(link, &turn);

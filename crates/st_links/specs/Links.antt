@@ -1,5 +1,5 @@
--- What passes over a link, and a link of which one exchange fails.
-use Rattle.std.specs.Prelude.{◌≡◌, ◌+◌, ℕ, List, Result, Err}
+-- What passes over a link, a link of which one exchange fails, and the links of a hop in one list.
+use Rattle.std.specs.Prelude.{◌≡◌, ◌+◌, ℕ, List, Option, Some, None, Result, Ok, Err, MatchOption, slice_get, slice_set}
 use Rattle.st_devices.specs.Faults.{count_after}
 use Rattle.st_links.specs.declared.link.LinkFault.{LinkFault}
 use Rattle.st_links.specs.declared.link.LinkFault.TheVariants.{Device}
@@ -37,3 +37,20 @@ pub record IsExchange {L : Type 0} (behind : L → List ℕ → Result (List ℕ
   pub number : new.fails_at ≡ old.fails_at
   pub fails : IsDue old → FailsAlone old new answer
   pub through : ¬ (IsDue old) → behind old.link bytes answer new.link
+
+-- the bytes of the answer, or none at a fault of any kind
+abbrev pub bytes_answered : Result (List ℕ) LinkFault → Option (List ℕ)
+bytes_answered (Ok bytes) = Some bytes
+bytes_answered (Err fault) = None
+
+-- one exchange, of the link at this place: the others stay as they were
+pub record ExchangesOne {L : Type 0} (exchanges : L → List ℕ → Result (List ℕ) LinkFault → L → Type 0) (old : List L) (place : ℕ) (bytes : List ℕ) (outcome : Option (List ℕ)) (new : List L) (before : L) : Type 0 where
+  pub answer : Result (List ℕ) LinkFault
+  pub after : L
+  pub exchanged : exchanges before bytes answer after
+  pub passed : outcome ≡ bytes_answered answer
+  pub others : new ≡ slice_set old place after
+
+-- an exchange of an account is that of the link at its place; if there is none, there is no answer
+abbrev pub IsExchangeAt : {L : Type 0} → (exchanges : L → List ℕ → Result (List ℕ) LinkFault → L → Type 0) → (old : List L) → (account : ℕ) → (bytes : List ℕ) → (outcome : Option (List ℕ)) → (new : List L) → Type 0
+IsExchangeAt exchanges old account bytes outcome new = MatchOption (slice_get old account) ((outcome ≡ None) × (new ≡ old)) (ExchangesOne exchanges old account bytes outcome new)

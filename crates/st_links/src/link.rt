@@ -4,6 +4,7 @@ ghost use Rattle.std.specs.Prelude.{◌≡◌, ℕ, ℤ, List, Option, Result, I
 ghost use Rattle.st_links.specs.Outcomes.{outcome_seen};
 ghost use Rattle.st_devices.specs.Faults.{Rose};
 ghost use Rattle.st_links.specs.Answers.{answer_seen};
+ghost use Rattle.st_links.specs.Links.{IsExchangeAt};
 ghost use Rattle.st_links.specs.declared.link.LinkFault as faults;
 ghost use Rattle.st_links.specs.declared.link.LinkFault.TheVariants.{Device};
 
@@ -51,6 +52,9 @@ pub trait Links<A: Allocator + Copy> {
 }
 
 impl<A: Allocator + Copy, L: Link<A>> Links<A> for Vec<L, A> {
+    // One exchange, of the link at the account's place.
+    ghost exchanges = { λ old account bytes _ outcome new. IsExchangeAt L.exchanges old.items account bytes outcome new.items };
+
     fn exchange(&mut self, account: usize, bytes: &[u8], by: Moment) -> Outcome<A> {
         match self.get_mut(account) {
             Some(link) => match link.exchange(bytes, by) {

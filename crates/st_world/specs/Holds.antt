@@ -88,7 +88,8 @@ dues_at w way (AtHop i) = node_dues (account_to way) (slice_get w.nodes i)
 
 abbrev pub LinksAgree : World → Type 0
 LinksAgree w = (link : ℕ) (way : Side) → link < length w.nodes + 1
-    → claims_at w way (far w link way) ≡ dues_at w way (near w link way) + sum_by (open_amount (direction_at w link way).prepares) (direction_at w link way).given
+    → claims_at w way (far w link way)
+    ≡ dues_at w way (near w link way) + sum_by (open_amount (direction_at w link way).prepares) (direction_at w link way).given
 
 pub record Holds (w : World) : Type 0 where
   pub bytes_in_order : ReadsPrefix w

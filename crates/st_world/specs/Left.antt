@@ -1,12 +1,12 @@
 -- What a run leaves: a world without its links.
-use Rattle.std.specs.Prelude.{◌≡◌, ◌⊎◌, ℕ, ℤ, Bool, true, false, List}
+use Rattle.std.specs.Prelude.{◌≡◌, ◌⊎◌, ℕ, ℤ, Bool, true, false, List, Option}
 use Rattle.std.specs.Ordering.{nat_cmp}
 use Rattle.std.specs.FinMap as fmap
 use Rattle.st_world_parts.specs.Sides.{Side, Both}
 use Rattle.st_world_parts.specs.StreamLogs.{StreamLog}
 use Rattle.st_world_parts.specs.State.{World, Party, Node, Direction, SentPrepare, Place}
 use Rattle.st_world_parts.specs.Events.{Event, OpenStream, Write, Read, Close, Abort, Offer, ReceiveMax, Send, Arrive, AnswerArrives, Fault, Crash, Refused, Told, NoMemory}
-use Rattle.st_world.specs.Steps.{ArrivesAt, RefusesAt, with_refusal}
+use Rattle.st_world.specs.Steps.{ArrivesAt, Back, BackAt, Meets, RefusesAt, with_refusal}
 use Rattle.st_world.specs.Runs.{Chain, Run, opening}
 use Rattle.st_world.specs.Holds.{Holds}
 
@@ -49,6 +49,29 @@ abbrev pub MeetsAt : World → (link : ℕ) → (way : Side) → (which : ℕ) �
 MeetsAt w link way which now p place told after =
     ArrivesAt w link way which now p place told after
     ⊎ ((mid : World) × (told ≡ NoMemory) × RefusesAt w link way which now p place mid × (after ≡ with_refusal mid))
+
+-- ---- the same of what is left and the links, before and after
+
+-- this event is met
+abbrev pub MeetsOver : Left → List (Both Direction) → Event → Told → Left → List (Both Direction) → Type 0
+MeetsOver old ls event told new ks = Meets (in_world old ls) event told (in_world new ks)
+
+-- a Prepare comes to this place
+abbrev pub ComesOver : Left → List (Both Direction) → (link : ℕ) → (way : Side) → (which : ℕ) → (now : ℤ) → SentPrepare → Place → Told
+    → Left → List (Both Direction) → Type 0
+ComesOver old ls link way which now p place told new ks = MeetsAt (in_world old ls) link way which now p place told (in_world new ks)
+
+-- the outcome of a Prepare comes back to this place
+abbrev pub ReturnsOver : Left → List (Both Direction) → (link : ℕ) → (way : Side) → ℕ → (now : ℤ) → SentPrepare
+    → (outcome : Option (List ℕ)) → Place → Told → Left → List (Both Direction) → Type 0
+ReturnsOver old ls link way j now p outcome place told new ks =
+    BackAt (in_world old ls) link way j now p outcome place told (in_world new ks)
+
+-- the outcome of a Prepare comes back to whoever put it, if it is one of the link's
+abbrev pub GoesBackOver : Left → List (Both Direction) → (link : ℕ) → (way : Side) → ℕ → (now : ℤ) → (outcome : Option (List ℕ))
+    → Option SentPrepare → Told → Left → List (Both Direction) → Type 0
+GoesBackOver old ls link way j now outcome put told new ks =
+    Back (in_world old ls) link way j now outcome put told (in_world new ks)
 
 -- a world that some run from an opening reaches
 abbrev pub IsReached : World → Type 0

@@ -24,7 +24,8 @@ HopsMet link next way which bytes now told n m ls ks =
     (x y : Direction) × HopMet way which bytes now told n m (lane_in ls next way) x (lane_in ls link way) y
     × (ks ≡ with_lane_in (with_lane_in ls link way y) next way x)
 
-abbrev pub HopsBack : (link prev : ℕ) → (way : Side) → SentPrepare → ℕ → (outcome : Option (List ℕ)) → (now : ℤ) → Told → (n m : Node) → (ls ks : Links) → Type 0
+abbrev pub HopsBack : (link prev : ℕ) → (way : Side) → SentPrepare → ℕ → (outcome : Option (List ℕ)) → (now : ℤ) → Told → (n m : Node)
+    → (ls ks : Links) → Type 0
 HopsBack link prev way z j outcome now told n m ls ks =
     (y x : Direction) × HopBack z j outcome now told n m (lane_in ls link way) y (lane_in ls prev way) x
     × (ks ≡ with_lane_in (with_lane_in ls link way y) prev way x)

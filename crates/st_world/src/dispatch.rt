@@ -5,10 +5,9 @@ ghost use Rattle.st_links.specs.Outcomes.{outcome_seen};
 ghost use Rattle.st_world_parts.specs.Sides as sides;
 ghost use Rattle.st_world_parts.specs.State.{nth, far, near};
 ghost use Rattle.st_world_parts.specs.Events as events;
-ghost use Rattle.st_world.specs.Steps.{Meets, BackAt, Back};
 ghost use Rattle.st_world_parts.specs.Parts.{lane_in};
 ghost use Rattle.st_world_parts.specs.Seen.{way_seen, told_seen};
-ghost use Rattle.st_world.specs.Left.{in_world, MeetsAt};
+ghost use Rattle.st_world.specs.Left.{in_world, ComesOver, GoesBackOver, MeetsOver, ReturnsOver};
 
 use crate::trace::Trace;
 use st_ilp::Moment;
@@ -28,7 +27,8 @@ impl<A: Allocator + Copy> Trace<A> {
     ) -> Result<Told<A>, AllocError>
         requires within { link < length links.old }
         requires links { length links.old ≡ length self.old.nodes + 1 }
-        ensures met { IfOk result (λ told. MeetsAt (in_world self.old links.old) link sides.Client which now put.now (far (in_world self.old links.old) link sides.Client) (told_seen told) (in_world self.new links.new)) }
+        ensures met { IfOk result (λ told. ComesOver self.old links.old link sides.Client which now put.now
+            (far (in_world self.old links.old) link sides.Client) (told_seen told) self.new links.new) }
         ensures same_self { OnErr result (self.new ≡ self.old) }
         ensures same_links { OnErr result (links.new ≡ links.old) }
         ensures nodes { length self.new.nodes ≡ length self.old.nodes }
@@ -52,7 +52,8 @@ impl<A: Allocator + Copy> Trace<A> {
     ) -> Result<Told<A>, AllocError>
         requires within { link < length links.old }
         requires links { length links.old ≡ length self.old.nodes + 1 }
-        ensures met { IfOk result (λ told. MeetsAt (in_world self.old links.old) link sides.Server which now put.now (far (in_world self.old links.old) link sides.Server) (told_seen told) (in_world self.new links.new)) }
+        ensures met { IfOk result (λ told. ComesOver self.old links.old link sides.Server which now put.now
+            (far (in_world self.old links.old) link sides.Server) (told_seen told) self.new links.new) }
         ensures same_self { OnErr result (self.new ≡ self.old) }
         ensures same_links { OnErr result (links.new ≡ links.old) }
         ensures nodes { length self.new.nodes ≡ length self.old.nodes }
@@ -75,7 +76,7 @@ impl<A: Allocator + Copy> Trace<A> {
         now: Moment,
     ) -> Result<Told<A>, AllocError>
         requires { length links.old ≡ length self.old.nodes + 1 }
-        ensures met { IfOk result (λ told. Meets (in_world self.old links.old) (events.Arrive link (way_seen way) which now) (told_seen told) (in_world self.new links.new)) }
+        ensures met { IfOk result (λ told. MeetsOver self.old links.old (events.Arrive link (way_seen way) which now) (told_seen told) self.new links.new) }
         ensures same_self { OnErr result (self.new ≡ self.old) }
         ensures same_links { OnErr result (links.new ≡ links.old) }
         ensures nodes { length self.new.nodes ≡ length self.old.nodes }
@@ -107,7 +108,8 @@ impl<A: Allocator + Copy> Trace<A> {
     ) -> Result<Told<A>, AllocError>
         requires within { link < length links.old }
         requires links { length links.old ≡ length self.old.nodes + 1 }
-        ensures met { IfOk result (λ told. BackAt (in_world self.old links.old) link sides.Client which now put.now (outcome_seen outcome) (near (in_world self.old links.old) link sides.Client) (told_seen told) (in_world self.new links.new)) }
+        ensures met { IfOk result (λ told. ReturnsOver self.old links.old link sides.Client which now put.now (outcome_seen outcome)
+            (near (in_world self.old links.old) link sides.Client) (told_seen told) self.new links.new) }
         ensures same_self { OnErr result (self.new ≡ self.old) }
         ensures same_links { OnErr result (links.new ≡ links.old) }
         ensures nodes { length self.new.nodes ≡ length self.old.nodes }
@@ -133,7 +135,8 @@ impl<A: Allocator + Copy> Trace<A> {
     ) -> Result<Told<A>, AllocError>
         requires within { link < length links.old }
         requires links { length links.old ≡ length self.old.nodes + 1 }
-        ensures met { IfOk result (λ told. BackAt (in_world self.old links.old) link sides.Server which now put.now (outcome_seen outcome) (near (in_world self.old links.old) link sides.Server) (told_seen told) (in_world self.new links.new)) }
+        ensures met { IfOk result (λ told. ReturnsOver self.old links.old link sides.Server which now put.now (outcome_seen outcome)
+            (near (in_world self.old links.old) link sides.Server) (told_seen told) self.new links.new) }
         ensures same_self { OnErr result (self.new ≡ self.old) }
         ensures same_links { OnErr result (links.new ≡ links.old) }
         ensures nodes { length self.new.nodes ≡ length self.old.nodes }
@@ -159,7 +162,8 @@ impl<A: Allocator + Copy> Trace<A> {
         now: Moment,
     ) -> Result<Told<A>, AllocError>
         requires { length links.old ≡ length self.old.nodes + 1 }
-        ensures met { IfOk result (λ told. Back (in_world self.old links.old) link (way_seen way) which now (outcome_seen outcome) (nth (lane_in links.old link (way_seen way)).prepares put) (told_seen told) (in_world self.new links.new)) }
+        ensures met { IfOk result (λ told. GoesBackOver self.old links.old link (way_seen way) which now (outcome_seen outcome)
+            (nth (lane_in links.old link (way_seen way)).prepares put) (told_seen told) self.new links.new) }
         ensures same_self { OnErr result (self.new ≡ self.old) }
         ensures same_links { OnErr result (links.new ≡ links.old) }
         ensures nodes { length self.new.nodes ≡ length self.old.nodes }
@@ -189,7 +193,8 @@ impl<A: Allocator + Copy> Trace<A> {
         now: Moment,
     ) -> Result<Told<A>, AllocError>
         requires { length links.old ≡ length self.old.nodes + 1 }
-        ensures met { IfOk result (λ told. Meets (in_world self.old links.old) (events.AnswerArrives link (way_seen way) which now) (told_seen told) (in_world self.new links.new)) }
+        ensures met { IfOk result (λ told. MeetsOver self.old links.old (events.AnswerArrives link (way_seen way) which now)
+            (told_seen told) self.new links.new) }
         ensures same_self { OnErr result (self.new ≡ self.old) }
         ensures same_links { OnErr result (links.new ≡ links.old) }
         ensures nodes { length self.new.nodes ≡ length self.old.nodes }
@@ -213,7 +218,7 @@ impl<A: Allocator + Copy> Trace<A> {
         now: Moment,
     ) -> Result<Told<A>, AllocError>
         requires { length links.old ≡ length self.old.nodes + 1 }
-        ensures met { IfOk result (λ told. Meets (in_world self.old links.old) (events.Fault link (way_seen way) which now) (told_seen told) (in_world self.new links.new)) }
+        ensures met { IfOk result (λ told. MeetsOver self.old links.old (events.Fault link (way_seen way) which now) (told_seen told) self.new links.new) }
         ensures same_self { OnErr result (self.new ≡ self.old) }
         ensures same_links { OnErr result (links.new ≡ links.old) }
         ensures nodes { length self.new.nodes ≡ length self.old.nodes }

@@ -37,6 +37,8 @@ pub use st_ilp::Moment;
 pub use st_oer::Rate;
 pub use st_receiver::Got;
 pub use st_sender::EndConfig;
-pub use st_world_parts::{AnsweredAtEnd, SentAnswer, AnsweredAtHop, StreamLog, Node, Party, SentPrepare, Side, Told, Way};
+pub use st_world_parts::{
+    AnsweredAtEnd, AnsweredAtHop, Node, Party, SentAnswer, SentPrepare, Side, StreamLog, Told, Way,
+};
 pub use trace::Trace;
 pub use world::World;

@@ -158,7 +158,8 @@ pub(crate) fn back_to_hop_up<A: Allocator + Copy>(
     now: Moment,
 ) -> Result<Told<A>, AllocError>
     requires { link + 1 < length links.old }
-    ensures back { IfOk result (λ told. HopsBack (link + 1) link Client put.now which (outcome_seen outcome) now (told_seen told) node.old node.new links.old links.new) }
+    ensures back { IfOk result (λ told. HopsBack (link + 1) link Client put.now which (outcome_seen outcome) now
+        (told_seen told) node.old node.new links.old links.new) }
     ensures same_node { OnErr result (node.new ≡ node.old) }
     ensures same_links { OnErr result (links.new ≡ links.old) }
 {
@@ -188,7 +189,8 @@ pub(crate) fn back_to_hop_down<A: Allocator + Copy>(
     now: Moment,
 ) -> Result<Told<A>, AllocError>
     requires { link + 1 < length links.old }
-    ensures back { IfOk result (λ told. HopsBack link (link + 1) Server put.now which (outcome_seen outcome) now (told_seen told) node.old node.new links.old links.new) }
+    ensures back { IfOk result (λ told. HopsBack link (link + 1) Server put.now which (outcome_seen outcome) now
+        (told_seen told) node.old node.new links.old links.new) }
     ensures same_node { OnErr result (node.new ≡ node.old) }
     ensures same_links { OnErr result (links.new ≡ links.old) }
 {

@@ -19,7 +19,7 @@ use st_hop::{Account, HopError, Route};
 use st_keys::Keys;
 use st_oer::Rate;
 use st_sender::EndConfig;
-use st_world_parts::{StreamLogs, Link, Node, Party};
+use st_world_parts::{Link, Node, Party, StreamLogs};
 use std::alloc::{AllocError, Allocator};
 
 /// The greatest number of hops of a chain: 8.
@@ -180,7 +180,8 @@ fn ends_of<A: Allocator + Copy>(
     alloc: A,
     config: EndConfig,
 ) -> Result<(Party<A>, Party<A>), AllocError>
-    ensures { IfOk result (λ ps. (ps.0 ≡ new_party (new_end Role.Client (keys_of (replicate 32 0)) client_name server_name config)) × (ps.1 ≡ new_party (new_end Role.Server (keys_of (replicate 32 0)) server_name client_name config))) }
+    ensures { IfOk result (λ ps. (ps.0 ≡ new_party (new_end Role.Client (keys_of (replicate 32 0)) client_name server_name config))
+        × (ps.1 ≡ new_party (new_end Role.Server (keys_of (replicate 32 0)) server_name client_name config))) }
 {
     let client = client_of(alloc, config)?;
     let server = server_of(alloc, config)?;
@@ -248,7 +249,8 @@ impl<A: Allocator + Copy> World<A> {
     /// 2^63 - 1, otherwise with `NoMemory` if memory is refused.
     pub fn with_hops(alloc: A, accounts: &[Account], config: EndConfig) -> Result<World<A>, Fault>
         ensures opening { IfOk result (λ w. w ≡ opening (chain_of (map one_to_one accounts.now) config)) }
-        ensures refused { MatchBool (is_chain (chain_of (map one_to_one accounts.now) config)) (IsOkUnless result Fault.NoMemory) (IsErrOf result Fault.BadChain) }
+        ensures refused { MatchBool (is_chain (chain_of (map one_to_one accounts.now) config)) (IsOkUnless result Fault.NoMemory)
+            (IsErrOf result Fault.BadChain) }
     {
         if accounts.len() > MAX_HOPS {
             return Err(Fault::BadChain);

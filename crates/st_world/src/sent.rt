@@ -34,7 +34,8 @@ impl<A: Allocator + Copy> World<A> {
     /// The Prepare number `which`, from 1, of a link and a direction: the one of `Event::Arrive` and `Event::Fault`.
     /// `None` if there is none. Does not allocate.
     pub fn prepare(&self, link: usize, way: Way, which: usize) -> Option<&SentPrepare<A>>
-        ensures { MatchOption result (nth (direction_at self.now link (way_seen way)).prepares which ≡ None) (λ p. nth (direction_at self.now link (way_seen way)).prepares which ≡ Some p.now) }
+        ensures { MatchOption result (nth (direction_at self.now link (way_seen way)).prepares which ≡ None)
+            (λ p. nth (direction_at self.now link (way_seen way)).prepares which ≡ Some p.now) }
     {
         match self.links.get(link) {
             Some(over) => over.lane(way).prepare(which),
@@ -45,7 +46,8 @@ impl<A: Allocator + Copy> World<A> {
     /// The answer number `which`, from 1, of a link and a direction: the one of `Event::AnswerArrives`. `None` if there
     /// is none. Does not allocate.
     pub fn answer(&self, link: usize, way: Way, which: usize) -> Option<&SentAnswer<A>>
-        ensures { MatchOption result (nth (direction_at self.now link (way_seen way)).given which ≡ None) (λ g. nth (direction_at self.now link (way_seen way)).given which ≡ Some g.now) }
+        ensures { MatchOption result (nth (direction_at self.now link (way_seen way)).given which ≡ None)
+            (λ g. nth (direction_at self.now link (way_seen way)).given which ≡ Some g.now) }
     {
         match self.links.get(link) {
             Some(over) => over.lane(way).answer(which),

@@ -6,7 +6,7 @@ ghost use Rattle.st_world_parts.specs.Sides.{at};
 ghost use Rattle.st_world_parts.specs.Seen.{side_seen};
 
 use crate::trace::Trace;
-use st_world_parts::{StreamLog, Node, Party, Side};
+use st_world_parts::{Node, Party, Side, StreamLog};
 use std::alloc::Allocator;
 
 impl<A: Allocator + Copy> Trace<A> {
@@ -45,7 +45,8 @@ impl<A: Allocator + Copy> Trace<A> {
     /// What was written and read of a stream that the end `side` writes, and how its reader learned of its end. `None`
     /// if nothing was accepted or read of it. Does not allocate.
     pub fn ledger(&self, side: Side, stream: u8) -> Option<&StreamLog<A>>
-        ensures { MatchOption result (fmap.get (at self.now.ledgers (side_seen side)) stream ≡ None) (λ x. fmap.get (at self.now.ledgers (side_seen side)) stream ≡ Some x.now) }
+        ensures { MatchOption result (fmap.get (at self.now.ledgers (side_seen side)) stream ≡ None)
+            (λ x. fmap.get (at self.now.ledgers (side_seen side)) stream ≡ Some x.now) }
     {
         match side {
             Side::Client => self.from_client.get(stream),

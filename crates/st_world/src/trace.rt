@@ -5,10 +5,10 @@ ghost use Rattle.st_links.specs.Outcomes.{outcome_seen};
 ghost use Rattle.st_world_parts.specs.Sides as sides;
 ghost use Rattle.st_world_parts.specs.State.{AtEnd, AtHop};
 ghost use Rattle.st_world_parts.specs.Events as events;
-ghost use Rattle.st_world.specs.Steps.{Meets, BackAt};
+ghost use Rattle.st_world.specs.Steps.{Meets};
 ghost use Rattle.st_world_parts.specs.Seen.{side_seen, way_seen, told_seen};
 ghost use Rattle.st_world.specs.Places.{Links};
-ghost use Rattle.st_world.specs.Left.{in_world, lacks, MeetsAt};
+ghost use Rattle.st_world.specs.Left.{in_world, lacks, ComesOver, MeetsOver, ReturnsOver};
 
 use crate::links::{
     back_to_end, back_to_hop_down, back_to_hop_up, meet_end, meet_hop_down, meet_hop_up, send_on,
@@ -16,8 +16,8 @@ use crate::links::{
 use st_ilp::Moment;
 use st_links::Outcome;
 use st_world_parts::{
-    StreamLogs, Link, Node, Party, SentPrepare, Side, Told, Way, abort_at, close_at, offer_at, open_at,
-    raise_at, read_at, write_at,
+    Link, Node, Party, SentPrepare, Side, StreamLogs, Told, Way, abort_at, close_at, offer_at,
+    open_at, raise_at, read_at, write_at,
 };
 use std::alloc::{AllocError, Allocator};
 use std::marker::Model;
@@ -85,7 +85,7 @@ impl<A: Allocator + Copy> Trace<A> {
         stream: u8,
         bytes: &[u8],
     ) -> Result<Told<A>, AllocError>
-        ensures met { IfOk result (λ told. (ls : Links) → Meets (in_world self.old ls) (events.Write (side_seen side) stream bytes.now) (told_seen told) (in_world self.new ls)) }
+        ensures met { IfOk result (λ told. (ls : Links) → MeetsOver self.old ls (events.Write (side_seen side) stream bytes.now) (told_seen told) self.new ls) }
         ensures unchanged { OnErr result (self.new ≡ self.old) }
         ensures nodes { length self.new.nodes ≡ length self.old.nodes }
     {
@@ -104,7 +104,7 @@ impl<A: Allocator + Copy> Trace<A> {
     /// Bytes are read at an end.
     pub(crate) fn read(&mut self, side: Side, stream: u8, max: usize) -> Result<Told<A>, AllocError>
         requires { 1 ≤ max }
-        ensures met { IfOk result (λ told. (ls : Links) → Meets (in_world self.old ls) (events.Read (side_seen side) stream max) (told_seen told) (in_world self.new ls)) }
+        ensures met { IfOk result (λ told. (ls : Links) → MeetsOver self.old ls (events.Read (side_seen side) stream max) (told_seen told) self.new ls) }
         ensures unchanged { OnErr result (self.new ≡ self.old) }
         ensures nodes { length self.new.nodes ≡ length self.old.nodes }
     {
@@ -196,7 +196,7 @@ impl<A: Allocator + Copy> Trace<A> {
         now: Moment,
     ) -> Result<Told<A>, AllocError>
         requires { length links.old ≡ length self.old.nodes + 1 }
-        ensures met { IfOk result (λ told. Meets (in_world self.old links.old) (events.Send (side_seen side) iv now) (told_seen told) (in_world self.new links.new)) }
+        ensures met { IfOk result (λ told. MeetsOver self.old links.old (events.Send (side_seen side) iv now) (told_seen told) self.new links.new) }
         ensures twelve { length iv ≡ 12 }
         ensures same_self { OnErr result (self.new ≡ self.old) }
         ensures same_links { OnErr result (links.new ≡ links.old) }
@@ -238,7 +238,8 @@ impl<A: Allocator + Copy> Trace<A> {
         now: Moment,
     ) -> Result<Told<A>, AllocError>
         requires { link < length links.old }
-        ensures met { IfOk result (λ told. MeetsAt (in_world self.old links.old) link sides.Client which now put.now (AtEnd sides.Server) (told_seen told) (in_world self.new links.new)) }
+        ensures met { IfOk result (λ told. ComesOver self.old links.old link sides.Client which now put.now
+            (AtEnd sides.Server) (told_seen told) self.new links.new) }
         ensures same_self { OnErr result (self.new ≡ self.old) }
         ensures same_links { OnErr result (links.new ≡ links.old) }
         ensures nodes { length self.new.nodes ≡ length self.old.nodes }
@@ -258,7 +259,8 @@ impl<A: Allocator + Copy> Trace<A> {
         now: Moment,
     ) -> Result<Told<A>, AllocError>
         requires { link < length links.old }
-        ensures met { IfOk result (λ told. MeetsAt (in_world self.old links.old) link sides.Server which now put.now (AtEnd sides.Client) (told_seen told) (in_world self.new links.new)) }
+        ensures met { IfOk result (λ told. ComesOver self.old links.old link sides.Server which now put.now
+            (AtEnd sides.Client) (told_seen told) self.new links.new) }
         ensures same_self { OnErr result (self.new ≡ self.old) }
         ensures same_links { OnErr result (links.new ≡ links.old) }
         ensures nodes { length self.new.nodes ≡ length self.old.nodes }
@@ -279,7 +281,7 @@ impl<A: Allocator + Copy> Trace<A> {
     ) -> Result<Told<A>, AllocError>
         requires hop { link < length self.old.nodes }
         requires links { length links.old ≡ length self.old.nodes + 1 }
-        ensures met { IfOk result (λ told. MeetsAt (in_world self.old links.old) link sides.Client which now put.now (AtHop link) (told_seen told) (in_world self.new links.new)) }
+        ensures met { IfOk result (λ told. ComesOver self.old links.old link sides.Client which now put.now (AtHop link) (told_seen told) self.new links.new) }
         ensures same_self { OnErr result (self.new ≡ self.old) }
         ensures same_links { OnErr result (links.new ≡ links.old) }
         ensures nodes { length self.new.nodes ≡ length self.old.nodes }
@@ -300,7 +302,8 @@ impl<A: Allocator + Copy> Trace<A> {
     ) -> Result<Told<A>, AllocError>
         requires hop { hop < length self.old.nodes }
         requires links { length links.old ≡ length self.old.nodes + 1 }
-        ensures met { IfOk result (λ told. MeetsAt (in_world self.old links.old) (hop + 1) sides.Server which now put.now (AtHop hop) (told_seen told) (in_world self.new links.new)) }
+        ensures met { IfOk result (λ told. ComesOver self.old links.old (hop + 1) sides.Server which now put.now
+            (AtHop hop) (told_seen told) self.new links.new) }
         ensures same_self { OnErr result (self.new ≡ self.old) }
         ensures same_links { OnErr result (links.new ≡ links.old) }
         ensures nodes { length self.new.nodes ≡ length self.old.nodes }
@@ -323,7 +326,8 @@ impl<A: Allocator + Copy> Trace<A> {
         now: Moment,
     ) -> Told<A>
         requires { link < length links.old }
-        ensures met { BackAt (in_world self.old links.old) link (way_seen way) which now put.now (outcome_seen outcome) (AtEnd (side_seen side)) (told_seen result) (in_world self.new links.new) }
+        ensures met { ReturnsOver self.old links.old link (way_seen way) which now put.now
+            (outcome_seen outcome) (AtEnd (side_seen side)) (told_seen result) self.new links.new }
         ensures nodes { length self.new.nodes ≡ length self.old.nodes }
     {
         let _at = now;
@@ -345,7 +349,8 @@ impl<A: Allocator + Copy> Trace<A> {
     ) -> Result<Told<A>, AllocError>
         requires hop { hop < length self.old.nodes }
         requires links { length links.old ≡ length self.old.nodes + 1 }
-        ensures met { IfOk result (λ told. BackAt (in_world self.old links.old) (hop + 1) sides.Client which now put.now (outcome_seen outcome) (AtHop hop) (told_seen told) (in_world self.new links.new)) }
+        ensures met { IfOk result (λ told. ReturnsOver self.old links.old (hop + 1) sides.Client which now put.now
+            (outcome_seen outcome) (AtHop hop) (told_seen told) self.new links.new) }
         ensures same_self { OnErr result (self.new ≡ self.old) }
         ensures same_links { OnErr result (links.new ≡ links.old) }
         ensures nodes { length self.new.nodes ≡ length self.old.nodes }
@@ -367,7 +372,8 @@ impl<A: Allocator + Copy> Trace<A> {
     ) -> Result<Told<A>, AllocError>
         requires hop { link < length self.old.nodes }
         requires links { length links.old ≡ length self.old.nodes + 1 }
-        ensures met { IfOk result (λ told. BackAt (in_world self.old links.old) link sides.Server which now put.now (outcome_seen outcome) (AtHop link) (told_seen told) (in_world self.new links.new)) }
+        ensures met { IfOk result (λ told. ReturnsOver self.old links.old link sides.Server which now put.now
+            (outcome_seen outcome) (AtHop link) (told_seen told) self.new links.new) }
         ensures same_self { OnErr result (self.new ≡ self.old) }
         ensures same_links { OnErr result (links.new ≡ links.old) }
         ensures nodes { length self.new.nodes ≡ length self.old.nodes }

@@ -71,7 +71,8 @@ answered_at_end w link way which side e x answer = with_answer (with_entry (with
 
 abbrev pub ArrivesAtEnd : World → (link : ℕ) → (way : Side) → (which : ℕ) → SentPrepare → (now : ℤ) → Side → Told → World → Type 0
 ArrivesAtEnd w link way which p now side told after =
-    let r = received (end_at w side) p.bytes now in (told ≡ Answered r.0.reason r.0.amount r.0.sequence) × (after ≡ answered_at_end w link way which side r.1 (end_entry r.0) r.0.bytes)
+    let r = received (end_at w side) p.bytes now in (told ≡ Answered r.0.reason r.0.amount r.0.sequence)
+    × (after ≡ answered_at_end w link way which side r.1 (end_entry r.0) r.0.bytes)
 
 -- ---- an outcome arrives at an end. The answer, if it is one, has this place in the list
 

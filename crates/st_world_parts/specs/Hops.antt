@@ -45,7 +45,8 @@ abbrev pub settled_entry : Open → (fulfilled : Bool) → AnsweredAtHop
 settled_entry t fulfilled = record { incoming = t.incoming; outgoing = Some t.outgoing; amount_in = t.amount_in; amount_out = t.amount_out; fulfilled = fulfilled }
 
 -- a ticket that is spent changes nothing
-abbrev pub BackAtTicket : World → (link : ℕ) → (way : Side) → ℕ → SentPrepare → (outcome : Option (List ℕ)) → (now : ℤ) → (i : ℕ) → Node → Option Open → Told → World → Type 0
+abbrev pub BackAtTicket : World → (link : ℕ) → (way : Side) → ℕ → SentPrepare → (outcome : Option (List ℕ)) → (now : ℤ) → (i : ℕ) → Node → Option Open
+    → Told → World → Type 0
 BackAtTicket w link way j p outcome now i n None told after = (told ≡ Silent) × (after ≡ w)
 BackAtTicket w link way j p outcome now i n (Some t) told after =
     let r = settled n.state t outcome now in
@@ -55,7 +56,8 @@ BackAtTicket w link way j p outcome now i n (Some t) told after =
     (taken_if booked (with_hop_entry w i n r.1 (settled_entry t booked)) link way j)
     (prev_link link way) way (answer_to p.cause r.0))
 
-abbrev pub BackAtHop : World → (link : ℕ) → (way : Side) → ℕ → SentPrepare → (outcome : Option (List ℕ)) → (now : ℤ) → (i : ℕ) → Option Node → Told → World → Type 0
+abbrev pub BackAtHop : World → (link : ℕ) → (way : Side) → ℕ → SentPrepare → (outcome : Option (List ℕ)) → (now : ℤ) → (i : ℕ) → Option Node → Told
+    → World → Type 0
 BackAtHop w link way j p outcome now i None told after = (told ≡ Silent) × (after ≡ w)
 BackAtHop w link way j p outcome now i (Some n) told after = BackAtTicket w link way j p outcome now i n (ticket_at n.state.tickets p.name) told after
 

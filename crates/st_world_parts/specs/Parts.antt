@@ -87,7 +87,8 @@ with_taken_in b x j = record { prepares = x.prepares; given = taken_in b x.given
 abbrev pub EndSends : (iv : List ℕ) → (now : ℤ) → Told → (p q : Party) → (x y : Direction) → Type 0
 EndSends iv now told p q x y =
     (GoesNone p.state × (told ≡ Silent) × (q ≡ p) × (y ≡ x))
-    ⊎ (((flight : flights.Open) × (bytes : List ℕ) × (e : EndState) × Goes p.state iv now flight bytes e × (told ≡ Sent) × (q ≡ with_state p e) × (y ≡ with_put_in x (prepare_of_flight flight bytes)))
+    ⊎ (((flight : flights.Open) × (bytes : List ℕ) × (e : EndState) × Goes p.state iv now flight bytes e × (told ≡ Sent) × (q ≡ with_state p e)
+    × (y ≡ with_put_in x (prepare_of_flight flight bytes)))
     ⊎ ((told ≡ NoMemory) × (q ≡ p) × (y ≡ x)))
 
 abbrev pub with_answered : Party → EndState → AnsweredAtEnd → Party
@@ -95,7 +96,8 @@ with_answered p e x = record { state = e; answered = p.answered ++ x ∷ [] }
 
 abbrev pub EndMet : (which : ℕ) → (bytes : List ℕ) → (now : ℤ) → Told → (p q : Party) → (x y : Direction) → Type 0
 EndMet which bytes now told p q x y =
-    (let r = received p.state bytes now in (told ≡ Answered r.0.reason r.0.amount r.0.sequence) × (q ≡ with_answered p r.1 (end_entry r.0)) × (y ≡ with_given_in x (answer_to which r.0.bytes)))
+    (let r = received p.state bytes now in (told ≡ Answered r.0.reason r.0.amount r.0.sequence) × (q ≡ with_answered p r.1 (end_entry r.0))
+    × (y ≡ with_given_in x (answer_to which r.0.bytes)))
     ⊎ ((told ≡ NoMemory) × (q ≡ with_answered p p.state (refused_entry bytes None)) × (y ≡ with_given_in x (answer_to which (t00_text p.state.own))))
 
 -- a flight that is spent, or that this end has not, changes nothing
@@ -115,9 +117,11 @@ abbrev pub HopMet : (way : Side) → (which : ℕ) → (bytes : List ℕ) → (n
 HopMet way which bytes now told n m next next' back back' =
     ((reply : List ℕ) × (h : Hop) × (arrived n.state (account_from way) bytes now ≡ (Answers reply, h))
     × (told ≡ Replied) × (m ≡ with_settled n h (reject_entry (account_from way) bytes)) × (next' ≡ next) × (back' ≡ with_given_in back (answer_to which reply)))
-    ⊎ (((t : Open) × (outgoing : ℕ) × (text : List ℕ) × (h : Hop) × (arrived n.state (account_from way) bytes now ≡ (Forwards t outgoing text, h)) × (outgoing ≡ account_to way)
+    ⊎ (((t : Open) × (outgoing : ℕ) × (text : List ℕ) × (h : Hop) × (arrived n.state (account_from way) bytes now ≡ (Forwards t outgoing text, h))
+    × (outgoing ≡ account_to way)
     × (told ≡ Went) × (m ≡ record { state = h; answered = n.answered }) × (next' ≡ with_put_in next (prepare_of_ticket t text which)) × (back' ≡ back))
-    ⊎ ((told ≡ NoMemory) × (m ≡ with_settled n n.state (reject_entry (account_from way) bytes)) × (next' ≡ next) × (back' ≡ with_given_in back (answer_to which (hop.t00_text n.state.own)))))
+    ⊎ ((told ≡ NoMemory) × (m ≡ with_settled n n.state (reject_entry (account_from way) bytes)) × (next' ≡ next)
+    × (back' ≡ with_given_in back (answer_to which (hop.t00_text n.state.own)))))
 
 -- a ticket that is spent changes nothing
 abbrev pub HopBack : SentPrepare → ℕ → (outcome : Option (List ℕ)) → (now : ℤ) → Told → (n m : Node) → (from from' back back' : Direction) → Type 0

@@ -9,7 +9,7 @@ ghost use Rattle.std.specs.FinMap as fmap;
 ghost use Rattle.st_world_parts.specs.Seen.{told_seen};
 ghost use Rattle.st_world_parts.specs.Parts.{CallMet, OpenMet, RaiseMet, ReadMet, SlotMet, SlotRead};
 
-use crate::ledger::{StreamLogs, Slot};
+use crate::ledger::{Slot, StreamLogs};
 use crate::party::Party;
 use crate::told::Told;
 use st_end::{EndError, EndState};

@@ -20,7 +20,7 @@ mod told;
 
 pub use calls::{abort_at, close_at, offer_at, open_at, raise_at, read_at, write_at};
 pub use entry::{AnsweredAtEnd, AnsweredAtHop};
-pub use lane::{SentAnswer, Direction, Link, SentPrepare, copy_given, copy_put};
+pub use lane::{Direction, Link, SentAnswer, SentPrepare, copy_given, copy_put};
 pub use ledger::{StreamLog, StreamLogs};
 pub use node::{Node, arrive_at, settle_at};
 pub use party::{Party, arrive_at_end, send_from, settle_at_end};

@@ -9,7 +9,7 @@ ghost use Rattle.st_world_parts.specs.Seen.{way_seen, told_seen};
 ghost use Rattle.st_world_parts.specs.Parts.{HopMet, HopBack, HopCrashed};
 
 use crate::entry::{AnsweredAtHop, amount_in};
-use crate::lane::{SentAnswer, Direction, SentPrepare, mark_taken};
+use crate::lane::{Direction, SentAnswer, SentPrepare, mark_taken};
 use crate::side::Way;
 use crate::told::Told;
 use indexmap::IndexMap;

@@ -17,7 +17,7 @@ ghost use Rattle.st_world_parts.specs.Kept.{AreKept};
 ghost use Rattle.st_world_parts.specs.Parts.{EndSends, EndMet, EndBack};
 
 use crate::entry::{AnsweredAtEnd, amount_in, is_fulfill};
-use crate::lane::{SentAnswer, Direction, SentPrepare, mark_taken};
+use crate::lane::{Direction, SentAnswer, SentPrepare, mark_taken};
 use crate::told::Told;
 use st_end::{EndError, EndState, Flight, Open, Role, Totals};
 use st_ilp::Moment;
@@ -261,7 +261,9 @@ pub fn arrive_at_end<A: Allocator + Copy>(
                 fulfilled: is_fulfill(&received.bytes),
             };
             party.answered.push(entry).unwrap();
-            lane.given.push(SentAnswer::new(which, received.bytes)).unwrap();
+            lane.given
+                .push(SentAnswer::new(which, received.bytes))
+                .unwrap();
             Ok(Told::Answered {
                 reason: received.reason,
                 amount: received.amount,

@@ -6,7 +6,9 @@ ghost use Rattle.st_hub.specs.Hub.{IsNew};
 use crate::ends::{client, server};
 use crate::gates::two_workers;
 use crate::hubs::{Locked, new_hubs, new_rings};
-use crate::wakes::{all_are_woken, gate_opens, others_end, room_is_made, takes_packets};
+use crate::wakes::{
+    all_are_woken, gate_opens, more_is_due, others_end, room_is_made, takes_packets,
+};
 use st_end::EndState;
 use st_queues::{GaugeSeat, HubName, Rings};
 use std::alloc::Global;
@@ -25,6 +27,7 @@ pub(crate) enum Scene {
     OthersEnd,
     AllAreWoken,
     RoomIsMade,
+    MoreIsDue,
     GateOpens,
 }
 
@@ -39,6 +42,7 @@ fn play<
         Scene::OthersEnd => others_end(rt, alloc, hubs, seat),
         Scene::AllAreWoken => all_are_woken(rt, alloc, hubs, seat),
         Scene::RoomIsMade => room_is_made(rt, alloc, hubs, seat),
+        Scene::MoreIsDue => more_is_due(rt, alloc, hubs, seat),
         Scene::GateOpens => gate_opens(rt, alloc, hubs, seat),
     }
 }

@@ -271,14 +271,28 @@ fn wake_all_wakes_who_waits_for_room(rt: HostRuntime) {
     run_threaded(&rt, rt.alloc(), Scene::AllAreWoken);
 }
 
-/// A worker that writes two bytes once another thread sleeps, and whose one exchange waits for that thread. Returns whether it woke
-/// up meanwhile.
-fn make_room<N: HubName<Global>, M: HubName<Global>, R: Wait + Abort + Clock>(
+/// Writes this many chunks of 4,096 bytes.
+fn write_chunks<N: HubName<Global>>(
+    rt: &impl Abort,
+    alloc: Global,
+    writer: &mut StreamWriter<N, Global>,
+    count: u32,
+) {
+    for _ in 0..count {
+        let chunk = [7u8; 4_096].to_vec(alloc).expect(rt, "memory");
+        sure!(rt; writer.try_write(chunk).is_ok());
+    }
+}
+
+/// A worker that writes this many chunks once another thread sleeps, and whose one exchange waits for that thread. Returns whether
+/// it woke up meanwhile.
+fn send_chunks<N: HubName<Global>, M: HubName<Global>, R: Wait + Abort + Clock>(
     rt: &R,
     alloc: Global,
     hubs: &Locked<N, M>,
     seat: &mut GaugeSeat<N, Global>,
     writer: &mut StreamWriter<N, Global>,
+    count: u32,
     woken: &Steps,
 ) -> bool {
     let own = Steps::new();
@@ -293,8 +307,7 @@ fn make_room<N: HubName<Global>, M: HubName<Global>, R: Wait + Abort + Clock>(
     };
     let mut ivs = Counting { first: 1, next: 0 };
     thread::sleep(rt, short());
-    let chunk = b"ab".to_vec(alloc).expect(rt, "memory");
-    sure!(rt; writer.try_write(chunk).is_ok());
+    write_chunks(rt, alloc, writer, count);
     work_resting(
         rt,
         hubs,
@@ -319,7 +332,7 @@ pub(crate) fn room_is_made<
     let ((), came) = thread::join(
         rt,
         || await_room(rt, hubs, &woken),
-        || make_room(rt, alloc, hubs, seat, &mut writer, &woken),
+        || send_chunks(rt, alloc, hubs, seat, &mut writer, 1, &woken),
     );
     sure!(rt; came);
 }
@@ -327,6 +340,28 @@ pub(crate) fn room_is_made<
 #[test]
 fn room_that_is_made_wakes_who_waits_for_it(rt: HostRuntime) {
     run_threaded(&rt, rt.alloc(), Scene::RoomIsMade);
+}
+
+/// A worker sleeps, and another one sends a full frame of data and has more.
+pub(crate) fn more_is_due<
+    N: HubName<Global> + Send + Sync,
+    M: HubName<Global> + Send + Sync,
+    R: Threads + Wait + Abort + Clock + Sync,
+>(rt: &R, alloc: Global, hubs: &Locked<N, M>, seat: &mut GaugeSeat<N, Global>) {
+    let (_, mut writer) = open(rt, &mut *hubs.near.lock(rt));
+    let mut other = hubs.gauge.split(seat);
+    let woken = Steps::new();
+    let ((), came) = thread::join(
+        rt,
+        || idle(rt, alloc, hubs, seat, 1, &woken),
+        || send_chunks(rt, alloc, hubs, &mut other, &mut writer, 5, &woken),
+    );
+    sure!(rt; came);
+}
+
+#[test]
+fn a_worker_that_leaves_more_wakes_another(rt: HostRuntime) {
+    run_threaded(&rt, rt.alloc(), Scene::MoreIsDue);
 }
 
 /// A worker of a number of rounds whose exchanges bring this Reject, each once the other worker made `after` steps. When a failure

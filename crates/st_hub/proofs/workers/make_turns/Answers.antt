@@ -15,7 +15,7 @@ returns-then-not-fill g c =
     record {
       made = c.loop.counter;
       few = c.loop.auto.counter-end;
-      hand = c.loop.hand;
+      spare_iv = c.loop.spare_iv;
       last = _;
       works = c.loop.invariant;
       ends = no_iv refl none.0 refl;
@@ -25,7 +25,7 @@ pub returns-in-Ends : goal.returns-in-Ends
 returns-in-Ends g c = record {
   made = c.loop.counter;
   few = c.loop.auto.counter-end;
-  hand = c.fill.new.hand;
+  spare_iv = c.fill.new.spare_iv;
   last = _;
   works = works_fill g.I.Ivs.gives g.L.Link.exchanges g.K.Clock.reads g.W.Observer.hears _ _ _ _ _ _ _ _ _ c.loop.invariant (rw c.if-not-fill.false at c.fill.ensures);
   ends = begun_ends {A = g.row.A.Denot} g.K.Clock.reads _ _ _ _ _ _ _ _ _ _ _ (rw c.in-Ends.is at c.begin.ensures);
@@ -50,7 +50,7 @@ pub returns : goal.returns
 returns g c = record {
   made = c.loop.counter;
   few = c.loop.auto.counter-end;
-  hand = c.loop.hand;
+  spare_iv = c.loop.spare_iv;
   last = _;
   works = c.loop.invariant;
   ends = all_turns refl (le_antisymm c.loop.auto.counter-end c.loop-test.false) refl;
