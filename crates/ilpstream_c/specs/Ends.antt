@@ -27,8 +27,8 @@ use Rattle.host_objects.specs.declared.object.Object.TheVariants.{End}
 use Rattle.host_objects.specs.declared.end.HostEnd.{HostEnd}
 use Rattle.ilpstream_c.specs.Handles.{Misused, flag, Copies}
 use Rattle.ilpstream_c.specs.declared.end.HostConfig.{HostConfig}
-use Rattle.ilpstream_c.specs.declared.end.HostReceived.{HostReceived}
-use Rattle.ilpstream_c.specs.declared.end.HostTotals.{HostTotals}
+use Rattle.ilpstream_c.specs.declared.end_packets.HostReceived.{HostReceived}
+use Rattle.ilpstream_c.specs.declared.end_reports.HostTotals.{HostTotals}
 
 abbrev pub no_memory : ℕ
 no_memory = 54

@@ -8,7 +8,7 @@ use Rattle.st_end.specs.Failed.{Failed}
 use Rattle.st_end.specs.Failures.{kind_of, code_of, by_of, message_of}
 use Rattle.host_objects.specs.Codes.{done, idle}
 use Rattle.host_objects.specs.declared.end.HostEnd.{HostEnd}
-use Rattle.ilpstream_c.specs.declared.end.HostFailure.{HostFailure}
+use Rattle.ilpstream_c.specs.declared.end_reports.HostFailure.{HostFailure}
 
 abbrev pub kind_number : FailedKind → ℕ
 kind_number Lost = 1

@@ -5,13 +5,19 @@
 //! program's fault, and reports the totals of its accounts.
 #![tactic(auto)]
 
+mod accept;
 mod accounts;
+mod common;
 mod connect;
 mod counts;
 mod crew;
+mod manager;
 mod minutes;
 mod roster;
+mod server;
 mod storing;
+mod ways;
+mod worker;
 
 pub use accounts::AccountTotals;
 pub use connect::{ConnectorEnded, connector_on};

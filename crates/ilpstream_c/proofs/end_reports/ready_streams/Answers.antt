@@ -3,7 +3,7 @@ use Rattle.std.proofs.lemmas.Iterator.{YieldsList-from_range}
 use Rattle.std.proofs.lemmas.Iterator.Adapters.{items_from_extend}
 use Rattle.std.proofs.lemmas.Iterator.Consumers.{YieldsList-from_filter}
 use Rattle.st_end.specs.Ready.{is_ready}
-use Rattle.ilpstream_c.proofs.end.ready_streams.Goals as goal
+use Rattle.ilpstream_c.proofs.end_reports.ready_streams.Goals as goal
 
 pub returns : goal.returns
 returns c =

@@ -1,5 +1,5 @@
 use denote.Param.Send.{sendable}
-use Rattle.ilpstream_connector.proofs.connect.fn.manage.scope.Goals as goal
+use Rattle.ilpstream_connector.proofs.manager.fn.manage.scope.Goals as goal
 
 -- what `manage` knows of its type parameters holds in the closure, too
 pub make_threads-requires-send-C : goal.make_threads-requires-send-C
