@@ -243,6 +243,11 @@ where
             minutes,
             accounts,
         ),
-        Err(_) => unbegun(alloc, TransferError::NoMemory, Vec::new(alloc), terms.workers),
+        Err(_) => unbegun(
+            alloc,
+            TransferError::NoMemory,
+            Vec::new(alloc),
+            terms.workers,
+        ),
     }
 }
