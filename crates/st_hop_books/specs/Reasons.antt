@@ -63,12 +63,12 @@ HasBadProof v names b = (id : ℕ) × (p : Proof) × (b.proof ≡ Some p) × (¬
 abbrev pub HasBadProofs : View → List (List ℕ) → List Booking → Type 0
 HasBadProofs v names bookings = (n : ℕ) × (b : Booking) × (slice_get bookings n ≡ Some b) × HasBadProof v names b
 
--- a call over a store whose disk was not rewritten by others fails only for these excuses, for a fault, or for want of memory
+-- a call over a store whose disk was not rewritten by others fails only for these excuses, for a fault, or out of memory
 abbrev pub FailsOnlyFor : {S T : Type 0} → Ghosts S → (old new : S) → Result T BooksError → Excuses → Type 0
 FailsOnlyFor g old new result x =
     IsClean (g.view new) → IfErr result (Because (g.view old) (MoreFaults (g.faults old) (g.faults new)) x)
 
--- what was entered is refused with the error of its entry; where all of it was entered, only a fault refuses it
+-- what was entered is refused with the error of its entry; if all of it was entered, only a fault refuses it
 abbrev pub FailsAsEntered : {S T : Type 0} → Ghosts S → (old new : S) → (entered result : Result T BooksError) → Type 0
 FailsAsEntered g old new entered result = IsClean (g.view new) → IfErr result (λ e.
     (entered ≡ Err e)

@@ -56,18 +56,18 @@ MeetsAt w link way which now p place told after =
 abbrev pub MeetsOver : Left → List (Both Direction) → Event → Told → Left → List (Both Direction) → Type 0
 MeetsOver old ls event told new ks = Meets (in_world old ls) event told (in_world new ks)
 
--- a Prepare comes to this place
+-- a Prepare arrives at this place
 abbrev pub ComesOver : Left → List (Both Direction) → (link : ℕ) → (way : Side) → (which : ℕ) → (now : ℤ) → SentPrepare → Place → Told
     → Left → List (Both Direction) → Type 0
 ComesOver old ls link way which now p place told new ks = MeetsAt (in_world old ls) link way which now p place told (in_world new ks)
 
--- the outcome of a Prepare comes back to this place
+-- the outcome of a Prepare arrives at this place
 abbrev pub ReturnsOver : Left → List (Both Direction) → (link : ℕ) → (way : Side) → ℕ → (now : ℤ) → SentPrepare
     → (outcome : Option (List ℕ)) → Place → Told → Left → List (Both Direction) → Type 0
 ReturnsOver old ls link way j now p outcome place told new ks =
     BackAt (in_world old ls) link way j now p outcome place told (in_world new ks)
 
--- the outcome of a Prepare comes back to whoever put it, if it is one of the link's
+-- the outcome of a Prepare arrives at whoever sent it, if it is one of the link's
 abbrev pub GoesBackOver : Left → List (Both Direction) → (link : ℕ) → (way : Side) → ℕ → (now : ℤ) → (outcome : Option (List ℕ))
     → Option SentPrepare → Told → Left → List (Both Direction) → Type 0
 GoesBackOver old ls link way j now outcome put told new ks =
