@@ -25,7 +25,8 @@ over hops f w = crossed hops f w.bytes w.later
 
 -- a trip over hops by calls: a Prepare that comes before it expires and its answer, a read of each stream, and a write on
 -- each of what fits
-pub record Crossing (input : ℕ → List ℕ) (limit : ℕ) (e : EndState) (hops : List Hop) (f : EndState) (g : EndState) (others : List Hop) (h : EndState) : Type 0 where
+pub record Crossing (input : ℕ → List ℕ) (limit : ℕ) (e : EndState) (hops : List Hop) (f : EndState) (g : EndState)
+    (others : List Hop) (h : EndState) : Type 0 where
   pub passage : Passage e
   pub moment : pos 0 ≤ℤ passage.later
   pub in_time : int_le (less_time hops (passage.now +ℤ answer_time)) passage.later ≡ false
@@ -37,4 +38,5 @@ pub record Crossing (input : ℕ → List ℕ) (limit : ℕ) (e : EndState) (hop
 abbrev pub Crossings : (ℕ → List ℕ) → (limit count : ℕ) → EndState → List Hop → EndState → EndState → List Hop → EndState → Type 0
 Crossings input limit zero e hops f g others h = (g ≡ e) × (others ≡ hops) × (h ≡ f)
 Crossings input limit (suc m) e hops f g others h =
-    (mid : EndState) × (between : List Hop) × (beyond : EndState) × Crossing input limit e hops f mid between beyond × Crossings input limit m mid between beyond g others h
+    (mid : EndState) × (between : List Hop) × (beyond : EndState)
+    × Crossing input limit e hops f mid between beyond × Crossings input limit m mid between beyond g others h

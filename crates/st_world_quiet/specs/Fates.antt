@@ -1,19 +1,20 @@
 -- A run that is played by a list of fates, one for each Send of the client, in order.
-use Rattle.std.specs.Prelude.{◌≡◌, ℕ, zero, suc, ◌+◌, ◌-◌, ◌*◌, ◌^◌, ◌<◌, ◌≤◌, pos, List, map, min, length, slice_index_or, sum}
+use Rattle.std.specs.Prelude.{◌≡◌, ℕ, zero, suc, ◌+◌, ◌-◌, ◌*◌, ◌^◌, ◌<◌, ◌≤◌, pos, false, List, map, min, length, slice_index_or, sum}
 use Rattle.std.specs.List.{AllByRecursion}
 use Rattle.st_hop.specs.declared.account.Account.{Account}
 use Rattle.st_sender.specs.Sending.{Config}
 use Rattle.st_end.specs.Sending.{GoesNone}
 use Rattle.st_world_parts.specs.Sides.{Client, Server}
 use Rattle.st_world_parts.specs.State.{World, end_at, direction_at}
+use Rattle.st_world.specs.Runs.{Chain, opening}
 use Rattle.st_world.specs.Left.{Left, left_of}
 use Rattle.st_world_quiet.specs.Losses as losses
 use Rattle.st_world_quiet.specs.Calls.{MaySend}
 use Rattle.st_world_quiet.specs.Worlds.{Met}
 use Rattle.st_world_quiet.specs.HopRounds.{BeginsEach, allows, reads}
-use Rattle.st_world_quiet.specs.Plays.{input_of, money_of, sends_needed}
+use Rattle.st_world_quiet.specs.Plays.{input_of, money_of, most_sends, sends_needed}
 use Rattle.st_world_quiet.specs.LostWorlds as worlds
-use Rattle.st_world_quiet.specs.LostWorlds.{Course, FatedRound, IsDeliveredLossy, IsShort, carried_in, course_at, fate_of}
+use Rattle.st_world_quiet.specs.LostWorlds.{Course, FatedRound, IsDeliveredLossy, IsShort, MayPlayLossy, carried_in, course_at, fate_of}
 use Rattle.st_world_quiet.specs.declared.fate.Fate.{Fate}
 use Rattle.st_world_quiet.specs.declared.fate.Fate.TheVariants.{Delivered, PrepareLost, AnswerLost}
 use Rattle.st_world_quiet.specs.Playing.{IsStuck, iv_of, read_limit}
@@ -62,7 +63,8 @@ pub record NumberedFate (course : ℕ → Course) (hops before : ℕ) (w v : Wor
 abbrev pub NumberedFates : (course : ℕ → Course) → (hops before more carried : ℕ) → World → World → Type 0
 NumberedFates course hops before zero carried w v = (carried ≡ 0) × (v ≡ w)
 NumberedFates course hops before (suc m) carried w v =
-    (mid : World) × (rest : ℕ) × NumberedFate course hops before w mid × (carried ≡ carried_in (course before) w mid + rest) × NumberedFates course hops (suc before) m rest mid v
+    (mid : World) × (rest : ℕ) × NumberedFate course hops before w mid
+    × (carried ≡ carried_in (course before) w mid + rest) × NumberedFates course hops (suc before) m rest mid v
 
 -- one, and how many Sends there were by then
 pub record GoesOnFated (course : ℕ → Course) (hops before after carried : ℕ) (w v : World) : Type 0 where
@@ -118,6 +120,33 @@ pub record DeliversFated (limit : ℕ) (xs : List (List ℕ)) (ms rs : List ℕ)
   pub credit : (end_at world Server).receiving.credit ≡ sum ms + q.carried
   pub sends : length (direction_at world 0 Client).prepares ≡ q.sends
 
+-- ---- and from the opening of a chain that may play it, if no call ran out of memory
+
+-- all is delivered
+abbrev pub DeliversIfItMayLose : (xs : List (List ℕ)) (ms rs : List ℕ) → List Fate → World → LossyOutcome → Type 0
+DeliversIfItMayLose xs ms rs fates w q =
+    (c : Chain) → w ≡ opening c → MayPlayLossy c xs ms rs (kinds_of fates) → q.trace.refused ≡ false
+    → DeliversFated c.config.packet_limit xs ms rs fates w q
+
+-- by fewer Sends than the bound and one for each that is lost
+abbrev pub IsBoundedIfItMayLose : (xs : List (List ℕ)) (ms rs : List ℕ) → List Fate → World → LossyOutcome → Type 0
+IsBoundedIfItMayLose xs ms rs fates w q =
+    (c : Chain) → w ≡ opening c → MayPlayLossy c xs ms rs (kinds_of fates) → q.trace.refused ≡ false
+    → q.sends + 1 ≤ most_sends c.config.packet_limit xs ms + losses.losses (kinds_of fates)
+
+-- and no more than are needed, and one for each that is lost
+abbrev pub IsNeededIfItMayLose : (xs : List (List ℕ)) (ms rs : List ℕ) → List Fate → World → LossyOutcome → Type 0
+IsNeededIfItMayLose xs ms rs fates w q =
+    (c : Chain) → w ≡ opening c → MayPlayLossy c xs ms rs (kinds_of fates) → q.trace.refused ≡ false
+    → q.sends ≤ sends_needed c.config.packet_limit xs ms + losses.losses (kinds_of fates)
+
+-- this is more than are needed with those that are lost, whatever the packet limit
+abbrev pub IsMoreThanLost : (xs : List (List ℕ)) (ms : List ℕ) → List Fate → ℕ → Type 0
+IsMoreThanLost xs ms fates most =
+    (limit : ℕ) → 0 < limit → sum (map length xs) < 2 ^ 63 → sum ms < 2 ^ 63
+    → sends_needed limit xs ms + all_lost fates < 2 ^ 64 - 1
+    → sends_needed limit xs ms + all_lost fates < most
+
 -- ---- its premises for a chain that forwards amounts unchanged, by the accounts of its hops
 
 pub record HasRoomToLose (accounts : List Account) (config : Config) (xs : List (List ℕ)) (ms rs : List ℕ) (fates : List losses.Fate) : Type 0 where
@@ -125,10 +154,12 @@ pub record HasRoomToLose (accounts : List Account) (config : Config) (xs : List 
   pub input_fits : sum (map length xs) < 2 ^ 63
   pub short : AllByRecursion IsShort xs
   pub most_fits : sum rs < 2 ^ 63
-  pub each : (i : ℕ) → i < length xs → slice_index_or ms i 0 + losses.lost_answers fates * min config.packet_limit (slice_index_or ms i 0) ≤ slice_index_or rs i 0
+  pub each : (i : ℕ) → i < length xs
+      → slice_index_or ms i 0 + losses.lost_answers fates * min config.packet_limit (slice_index_or ms i 0) ≤ slice_index_or rs i 0
   pub all : sum ms + losses.lost_answers fates * config.packet_limit < 2 ^ 63
   pub few : losses.AreFew 0 fates
   pub few_hops : length accounts ≤ 8
-  pub room : AllByRecursion (λ (a : Account). (config.packet_limit ≤ a.max_packet) × (sum ms + losses.lost_answers fates * config.packet_limit ≤ a.limit)) accounts
+  pub room : AllByRecursion (λ (a : Account).
+      (config.packet_limit ≤ a.max_packet) × (sum ms + losses.lost_answers fates * config.packet_limit ≤ a.limit)) accounts
   pub packets : sends_needed config.packet_limit xs ms + losses.losses fates < config.packets
   pub numbers : config.packets < 2 ^ 64

@@ -19,3 +19,8 @@ pub mod Fates
 pub mod Faults
 pub mod Playing
 pub mod Promised
+pub mod ChainLaws
+pub mod EndLaws
+pub mod HopLaws
+pub mod LossyEndLaws
+pub mod LossyHopLaws

@@ -104,7 +104,8 @@ FatedCrossing AnswerLost n e hops f g others h = UnansweredCrossing n e hops f g
 abbrev pub FatedCrossings : (n : ℕ → ℕ) → List Fate → EndState → List Hop → EndState → EndState → List Hop → EndState → Type 0
 FatedCrossings n [] e hops f g others h = (g ≡ e) × (others ≡ hops) × (h ≡ f)
 FatedCrossings n (fate ∷ fates) e hops f g others h =
-    (mid : EndState) × (between : List Hop) × (beyond : EndState) × FatedCrossing fate n e hops f mid between beyond × FatedCrossings n fates mid between beyond g others h
+    (mid : EndState) × (between : List Hop) × (beyond : EndState)
+    × FatedCrossing fate n e hops f mid between beyond × FatedCrossings n fates mid between beyond g others h
 
 -- ---- by calls: a read of each stream that has room for what one packet brings, and a write on each of what fits
 
@@ -136,4 +137,5 @@ FatedCross AnswerLost input limit e hops f g others h = UnansweredCross input li
 abbrev pub FatedCrosses : (input : ℕ → List ℕ) → (limit : ℕ) → List Fate → EndState → List Hop → EndState → EndState → List Hop → EndState → Type 0
 FatedCrosses input limit [] e hops f g others h = (g ≡ e) × (others ≡ hops) × (h ≡ f)
 FatedCrosses input limit (fate ∷ fates) e hops f g others h =
-    (mid : EndState) × (between : List Hop) × (beyond : EndState) × FatedCross fate input limit e hops f mid between beyond × FatedCrosses input limit fates mid between beyond g others h
+    (mid : EndState) × (between : List Hop) × (beyond : EndState)
+    × FatedCross fate input limit e hops f mid between beyond × FatedCrosses input limit fates mid between beyond g others h

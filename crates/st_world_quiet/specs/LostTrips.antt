@@ -77,4 +77,5 @@ FatedTurn AnswerLost input limit e f g h = UnansweredTurn input limit e f g h
 -- one for each fate
 abbrev pub FatedTurns : (input : ℕ → List ℕ) → (limit : ℕ) → List Fate → (e f g h : EndState) → Type 0
 FatedTurns input limit [] e f g h = (g ≡ e) × (h ≡ f)
-FatedTurns input limit (fate ∷ fates) e f g h = (mid : EndState) × (between : EndState) × FatedTurn fate input limit e f mid between × FatedTurns input limit fates mid between g h
+FatedTurns input limit (fate ∷ fates) e f g h =
+    (mid : EndState) × (between : EndState) × FatedTurn fate input limit e f mid between × FatedTurns input limit fates mid between g h

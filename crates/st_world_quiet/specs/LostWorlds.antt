@@ -56,7 +56,8 @@ gives_by hops course (suc n) link = gives_by hops course n link + gives_on hops 
 -- from a link over `hops` hops: all but the last event, the answer's arrival over the first of these links
 unfoldable pub going_by : (prepares answers : ℕ → ℕ) → (link hops : ℕ) → (now : ℤ) → List Event
 going_by p g link zero now = Arrive link Client (suc (p link)) now ∷ []
-going_by p g link (suc more) now = Arrive link Client (suc (p link)) now ∷ going_by p g (suc link) more now ++ AnswerArrives (suc link) Client (suc (g (suc link))) now ∷ []
+going_by p g link (suc more) now =
+    Arrive link Client (suc (p link)) now ∷ going_by p g (suc link) more now ++ AnswerArrives (suc link) Client (suc (g (suc link))) now ∷ []
 
 abbrev pub passing_by : (prepares answers : ℕ → ℕ) → (hops : ℕ) → (now : ℤ) → List Event
 passing_by p g hops now = going_by p g 0 hops now ++ AnswerArrives 0 Client (suc (g 0)) now ∷ []
@@ -65,13 +66,15 @@ passing_by p g hops now = going_by p g 0 hops now ++ AnswerArrives 0 Client (suc
 unfoldable pub losing_by : (prepares : ℕ → ℕ) → (link past hops : ℕ) → (now : ℤ) → List Event
 losing_by p link zero hops now = []
 losing_by p link (suc past) zero now = []
-losing_by p link (suc past) (suc more) now = Arrive link Client (suc (p link)) now ∷ losing_by p (suc link) past more now ++ Fault (suc link) Client (suc (p (suc link))) now ∷ []
+losing_by p link (suc past) (suc more) now =
+    Arrive link Client (suc (p link)) now ∷ losing_by p (suc link) past more now ++ Fault (suc link) Client (suc (p (suc link))) now ∷ []
 
 -- the answer is
 unfoldable pub stranding_by : (prepares answers : ℕ → ℕ) → (link past hops : ℕ) → (now : ℤ) → List Event
 stranding_by p g link zero hops now = going_by p g link hops now
 stranding_by p g link (suc past) zero now = Arrive link Client (suc (p link)) now ∷ []
-stranding_by p g link (suc past) (suc more) now = Arrive link Client (suc (p link)) now ∷ stranding_by p g (suc link) past more now ++ Fault (suc link) Client (suc (p (suc link))) now ∷ []
+stranding_by p g link (suc past) (suc more) now =
+    Arrive link Client (suc (p link)) now ∷ stranding_by p g (suc link) past more now ++ Fault (suc link) Client (suc (p (suc link))) now ∷ []
 
 abbrev pub following : Course → (prepares answers : ℕ → ℕ) → (hops : ℕ) → (now : ℤ) → List Event
 following Arrives p g hops now = passing_by p g hops now
@@ -169,4 +172,5 @@ pub record HasAllLossy (bytes : List ℕ) (money most stream : ℕ) (w : World) 
   pub within : (incoming_at (end_at w Server).receiving stream).credited ≤ money + most
 
 abbrev pub IsDeliveredLossy : (limit answers : ℕ) → List (List ℕ) → List ℕ → World → Type 0
-IsDeliveredLossy limit answers xs ms w = (i : ℕ) → i < length xs → HasAllLossy (slice_index_or xs i []) (slice_index_or ms i 0) (answers * min limit (slice_index_or ms i 0)) (2 * i + 1) w
+IsDeliveredLossy limit answers xs ms w =
+    (i : ℕ) → i < length xs → HasAllLossy (slice_index_or xs i []) (slice_index_or ms i 0) (answers * min limit (slice_index_or ms i 0)) (2 * i + 1) w

@@ -62,17 +62,20 @@ passing hops which now = going_over 0 hops which now ++ AnswerArrives 0 Client w
 abbrev pub AllForward : List Hop → (text : List ℕ) → (now : ℤ) → Type 0
 AllForward [] text now = Unit {0}
 AllForward (h ∷ others) text now =
-    (t : Open) × (account : ℕ) × (onward : List ℕ) × (after : Hop) × (arrived h 0 text now ≡ (Forwards t account onward, after)) × (ticket_at after.tickets t.number ≡ Some t) × AllForward others onward now
+    (t : Open) × (account : ℕ) × (onward : List ℕ) × (after : Hop)
+    × (arrived h 0 text now ≡ (Forwards t account onward, after)) × (ticket_at after.tickets t.number ≡ Some t) × AllForward others onward now
 
 -- from this world the client sent, the Prepare crossed all hops to the server, and the client received its answer; nothing
 -- was written or read. These numbers of Prepares and answers had crossed each link before
-pub record HasCrossedBy (w : World) (e : EndState) (hops : List Hop) (f : EndState) (prepares answers : ℕ → ℕ) (iv : List ℕ) (now : ℤ) (v : World) : Type 0 where
+pub record HasCrossedBy (w : World) (e : EndState) (hops : List Hop) (f : EndState) (prepares answers : ℕ → ℕ) (iv : List ℕ) (now : ℤ)
+    (v : World) : Type 0 where
   pub flight : flights.Open
   pub bytes : List ℕ
   pub gone : EndState
   pub goes : Goes e iv now flight bytes gone
   pub ledgers : v.ledgers ≡ w.ledgers
-  pub rests : IsSettled v (ended gone flight (Some (crossed hops f bytes now).answer)) (crossed hops f bytes now).hops (crossed hops f bytes now).end (λ link. suc (prepares link)) (λ link. suc (answers link))
+  pub rests : IsSettled v (ended gone flight (Some (crossed hops f bytes now).answer)) (crossed hops f bytes now).hops
+      (crossed hops f bytes now).end (λ link. suc (prepares link)) (λ link. suc (answers link))
 
 -- as many over all links
 abbrev pub HasCrossed : World → EndState → List Hop → EndState → (count : ℕ) → (iv : List ℕ) → (now : ℤ) → World → Type 0

@@ -44,7 +44,9 @@ fn go_fated<A: Allocator + Copy>(
     one: &mut u64,
 ) -> Result<bool, Stop>
     requires { sends.old + 1 < 2 ^ 64 }
-    ensures round { IfOk result (λ went. MatchBool went (GoesOnFated (course_at (courses_of fates.now)) hops sends.old sends.new one.new world.old world.new) (IsOver sends.old sends.new world.old world.new)) }
+    ensures round { IfOk result (λ went. MatchBool went
+        (GoesOnFated (course_at (courses_of fates.now)) hops sends.old sends.new one.new world.old world.new)
+        (IsOver sends.old sends.new world.old world.new)) }
     ensures stops { IfErr result (λ e. Stops ⊥ ⊥ e world.old world.new) }
 {
     let now = Moment::new(0).unwrap();

@@ -67,7 +67,8 @@ fn go<A: Allocator + Copy>(
 ) -> Result<(), Stop>
     requires numbers { sends + 1 < 2 ^ 64 }
     requires links { link + hops < 2 ^ 64 }
-    ensures met { OnOk result (Met world.old (going_by (puts_by (course_at (courses_of fates.now)) sends) (gives_by all (course_at (courses_of fates.now)) sends) link hops now) world.new) }
+    ensures met { OnOk result (Met world.old (going_by
+        (puts_by (course_at (courses_of fates.now)) sends) (gives_by all (course_at (courses_of fates.now)) sends) link hops now) world.new) }
     ensures stops { IfErr result (λ e. Stops ⊥ ⊥ e world.old world.new) }
 {
     let put = prepare(fates, sends, link);
@@ -125,7 +126,8 @@ fn strand<A: Allocator + Copy>(
 ) -> Result<(), Stop>
     requires numbers { sends + 1 < 2 ^ 64 }
     requires links { link + hops < 2 ^ 64 }
-    ensures met { OnOk result (Met world.old (stranding_by (puts_by (course_at (courses_of fates.now)) sends) (gives_by all (course_at (courses_of fates.now)) sends) link past hops now) world.new) }
+    ensures met { OnOk result (Met world.old (stranding_by
+        (puts_by (course_at (courses_of fates.now)) sends) (gives_by all (course_at (courses_of fates.now)) sends) link past hops now) world.new) }
     ensures stops { IfErr result (λ e. Stops ⊥ ⊥ e world.old world.new) }
 {
     if past == 0 {
@@ -150,7 +152,8 @@ fn arrive<A: Allocator + Copy>(
     now: Moment,
 ) -> Result<(), Stop>
     requires { sends + 1 < 2 ^ 64 }
-    ensures met { OnOk result (Met world.old (following worlds.Arrives (puts_by (course_at (courses_of fates.now)) sends) (gives_by all (course_at (courses_of fates.now)) sends) all now) world.new) }
+    ensures met { OnOk result (Met world.old (following worlds.Arrives
+        (puts_by (course_at (courses_of fates.now)) sends) (gives_by all (course_at (courses_of fates.now)) sends) all now) world.new) }
     ensures stops { IfErr result (λ e. Stops ⊥ ⊥ e world.old world.new) }
 {
     go(world, fates, all, sends, 0, all, now)?;
@@ -168,7 +171,8 @@ fn lose_prepare<A: Allocator + Copy>(
     now: Moment,
 ) -> Result<(), Stop>
     requires { sends + 1 < 2 ^ 64 }
-    ensures met { OnOk result (Met world.old (following (worlds.PrepareLost at) (puts_by (course_at (courses_of fates.now)) sends) (gives_by all (course_at (courses_of fates.now)) sends) all now) world.new) }
+    ensures met { OnOk result (Met world.old (following (worlds.PrepareLost at)
+        (puts_by (course_at (courses_of fates.now)) sends) (gives_by all (course_at (courses_of fates.now)) sends) all now) world.new) }
     ensures stops { IfErr result (λ e. Stops ⊥ ⊥ e world.old world.new) }
 {
     lose(world, fates, sends, 0, at, all, now)?;
@@ -186,7 +190,8 @@ fn lose_answer<A: Allocator + Copy>(
     now: Moment,
 ) -> Result<(), Stop>
     requires { sends + 1 < 2 ^ 64 }
-    ensures met { OnOk result (Met world.old (following (worlds.AnswerLost at) (puts_by (course_at (courses_of fates.now)) sends) (gives_by all (course_at (courses_of fates.now)) sends) all now) world.new) }
+    ensures met { OnOk result (Met world.old (following (worlds.AnswerLost at)
+        (puts_by (course_at (courses_of fates.now)) sends) (gives_by all (course_at (courses_of fates.now)) sends) all now) world.new) }
     ensures stops { IfErr result (λ e. Stops ⊥ ⊥ e world.old world.new) }
 {
     strand(world, fates, all, sends, 0, at, all, now)?;
@@ -203,7 +208,8 @@ pub(crate) fn follow<A: Allocator + Copy>(
     now: Moment,
 ) -> Result<(), Stop>
     requires { sends + 1 < 2 ^ 64 }
-    ensures met { OnOk result (Met world.old (following (course_at (courses_of fates.now) sends) (puts_by (course_at (courses_of fates.now)) sends) (gives_by all (course_at (courses_of fates.now)) sends) all now) world.new) }
+    ensures met { OnOk result (Met world.old (following (course_at (courses_of fates.now) sends)
+        (puts_by (course_at (courses_of fates.now)) sends) (gives_by all (course_at (courses_of fates.now)) sends) all now) world.new) }
     ensures stops { IfErr result (λ e. Stops ⊥ ⊥ e world.old world.new) }
 {
     match fate_at(fates, sends) {

@@ -1,15 +1,13 @@
 //! A run in which some Sends are lost, played whole.
 
-ghost use Rattle.std.specs.Prelude.{◌≡◌, ◌<◌, ◌≤◌, ◌+◌, ◌-◌, ◌^◌, ℕ, true, false, length, map, sum, IfErr, IfOk, OnOk};
+ghost use Rattle.std.specs.Prelude.{◌≡◌, ◌<◌, ◌≤◌, ◌+◌, ◌-◌, ◌^◌, true, false, length, map, IfErr, IfOk, OnOk};
 ghost use Rattle.std.specs.Result.{IsErrAnd};
 ghost use Rattle.st_world_parts.specs.State as state;
-ghost use Rattle.st_world.specs.Runs.{Chain, opening};
 ghost use Rattle.st_world.specs.Left.{left_of};
-ghost use Rattle.st_world_quiet.specs.Losses.{losses};
-ghost use Rattle.st_world_quiet.specs.Plays.{input_of, money_of, most_sends, sends_needed};
-ghost use Rattle.st_world_quiet.specs.LostWorlds.{MayPlayLossy, are_lawful_lossy, course_at};
+ghost use Rattle.st_world_quiet.specs.Plays.{input_of, money_of};
+ghost use Rattle.st_world_quiet.specs.LostWorlds.{are_lawful_lossy, course_at};
 ghost use Rattle.st_world_quiet.specs.Playing.{Continues, Stops, bytes_of};
-ghost use Rattle.st_world_quiet.specs.Fates.{DeliversFated, IsEndlessAfterFated, IsPlayedFated, IsStuckFated, all_lost, courses_of, kinds_of};
+ghost use Rattle.st_world_quiet.specs.Fates.{DeliversIfItMayLose, IsBoundedIfItMayLose, IsEndlessAfterFated, IsMoreThanLost, IsNeededIfItMayLose, IsPlayedFated, IsStuckFated, all_lost, courses_of};
 
 use crate::fate::Fate;
 use crate::fated::go_fates;
@@ -82,8 +80,7 @@ fn losses_of(fates: &[Fate]) -> u64
 /// More Sends than the run has: those of a lossless run, and one more for each that is lost.
 fn most_fated(input: &[&[u8]], money: &[u64], fates: &[Fate]) -> u64
     requires { length input.now ≤ 32 }
-    ensures { (limit : ℕ) → 0 < limit → sum (map length (bytes_of input.now)) < 2 ^ 63 → sum money.now < 2 ^ 63 → sends_needed limit (bytes_of input.now) money.now + all_lost fates.now < 2 ^ 64 - 1
-        → sends_needed limit (bytes_of input.now) money.now + all_lost fates.now < result }
+    ensures { IsMoreThanLost (bytes_of input.now) money.now fates.now result }
 {
     most_rounds(input, money).saturating_add(losses_of(fates))
 }
@@ -108,9 +105,12 @@ fn play_fated<A: Allocator + Copy>(
 ) -> Result<(), Stop>
     requires none { sends.old ≡ 0 }
     requires nothing { told.old ≡ 0 }
-    ensures played { OnOk result (IsPlayedFated (input_of (bytes_of input.now)) (money_of money.now) (money_of receive_max.now) (course_at (courses_of fates.now)) (length input.now) (length world.old.nodes) sends.new told.new world.old world.new) }
-    ensures stops { IfErr result (λ e. Stops (IsStuckFated (input_of (bytes_of input.now)) (money_of money.now) (money_of receive_max.now) (length input.now) world.old)
-        (IsEndlessAfterFated (input_of (bytes_of input.now)) (money_of money.now) (money_of receive_max.now) (course_at (courses_of fates.now)) (length input.now) (length world.old.nodes) most world.old) e world.old world.new) }
+    ensures played { OnOk result (IsPlayedFated (input_of (bytes_of input.now)) (money_of money.now) (money_of receive_max.now)
+        (course_at (courses_of fates.now)) (length input.now) (length world.old.nodes) sends.new told.new world.old world.new) }
+    ensures stops { IfErr result (λ e. Stops
+        (IsStuckFated (input_of (bytes_of input.now)) (money_of money.now) (money_of receive_max.now) (length input.now) world.old)
+        (IsEndlessAfterFated (input_of (bytes_of input.now)) (money_of money.now) (money_of receive_max.now)
+        (course_at (courses_of fates.now)) (length input.now) (length world.old.nodes) most world.old) e world.old world.new) }
 {
     let hops = world.trace().hops();
     allow_each(world, receive_max)?;
@@ -131,9 +131,9 @@ fn play_lawful_fated<A: Allocator + Copy>(
     ensures only_memory { IfErr result (λ e. e.0 ≡ Fault.NoMemory) }
     ensures run { IfOk result (λ q. (w : state.World) × Continues world w × (q.trace ≡ left_of w)) }
     ensures part { IfErr result (λ e. (w : state.World) × Continues world w × (e.1 ≡ left_of w)) }
-    ensures delivered { IfOk result (λ q. (c : Chain) → world ≡ opening c → MayPlayLossy c (bytes_of input.now) money.now receive_max.now (kinds_of fates.now) → q.trace.refused ≡ false → DeliversFated c.config.packet_limit (bytes_of input.now) money.now receive_max.now fates.now world q) }
-    ensures bounded { IfOk result (λ q. (c : Chain) → world ≡ opening c → MayPlayLossy c (bytes_of input.now) money.now receive_max.now (kinds_of fates.now) → q.trace.refused ≡ false → q.sends + 1 ≤ most_sends c.config.packet_limit (bytes_of input.now) money.now + losses (kinds_of fates.now)) }
-    ensures sharper { IfOk result (λ q. (c : Chain) → world ≡ opening c → MayPlayLossy c (bytes_of input.now) money.now receive_max.now (kinds_of fates.now) → q.trace.refused ≡ false → q.sends ≤ sends_needed c.config.packet_limit (bytes_of input.now) money.now + losses (kinds_of fates.now)) }
+    ensures delivered { IfOk result (λ q. DeliversIfItMayLose (bytes_of input.now) money.now receive_max.now fates.now world q) }
+    ensures bounded { IfOk result (λ q. IsBoundedIfItMayLose (bytes_of input.now) money.now receive_max.now fates.now world q) }
+    ensures sharper { IfOk result (λ q. IsNeededIfItMayLose (bytes_of input.now) money.now receive_max.now fates.now world q) }
 {
     let most = most_fated(input, money, fates);
     let mut sends = 0;
@@ -175,13 +175,14 @@ pub fn lossy<A: Allocator + Copy>(
     receive_max: &[u64],
     fates: &[Fate],
 ) -> Result<LossyDelivery<A>, (Fault, Trace<A>)>
-    ensures bad_input { are_lawful_lossy (bytes_of input.now) money.now receive_max.now ≡ false → IsErrAnd result (λ e. (e.0 ≡ Fault.BadInput) × (e.1 ≡ left_of world)) }
+    ensures bad_input { are_lawful_lossy (bytes_of input.now) money.now receive_max.now ≡ false
+        → IsErrAnd result (λ e. (e.0 ≡ Fault.BadInput) × (e.1 ≡ left_of world)) }
     ensures only_memory { are_lawful_lossy (bytes_of input.now) money.now receive_max.now ≡ true → IfErr result (λ e. e.0 ≡ Fault.NoMemory) }
     ensures run { IfOk result (λ q. (w : state.World) × Continues world w × (q.trace ≡ left_of w)) }
     ensures part { IfErr result (λ e. (w : state.World) × Continues world w × (e.1 ≡ left_of w)) }
-    ensures delivered { IfOk result (λ q. (c : Chain) → world ≡ opening c → MayPlayLossy c (bytes_of input.now) money.now receive_max.now (kinds_of fates.now) → q.trace.refused ≡ false → DeliversFated c.config.packet_limit (bytes_of input.now) money.now receive_max.now fates.now world q) }
-    ensures bounded { IfOk result (λ q. (c : Chain) → world ≡ opening c → MayPlayLossy c (bytes_of input.now) money.now receive_max.now (kinds_of fates.now) → q.trace.refused ≡ false → q.sends + 1 ≤ most_sends c.config.packet_limit (bytes_of input.now) money.now + losses (kinds_of fates.now)) }
-    ensures sharper { IfOk result (λ q. (c : Chain) → world ≡ opening c → MayPlayLossy c (bytes_of input.now) money.now receive_max.now (kinds_of fates.now) → q.trace.refused ≡ false → q.sends ≤ sends_needed c.config.packet_limit (bytes_of input.now) money.now + losses (kinds_of fates.now)) }
+    ensures delivered { IfOk result (λ q. DeliversIfItMayLose (bytes_of input.now) money.now receive_max.now fates.now world q) }
+    ensures bounded { IfOk result (λ q. IsBoundedIfItMayLose (bytes_of input.now) money.now receive_max.now fates.now world q) }
+    ensures sharper { IfOk result (λ q. IsNeededIfItMayLose (bytes_of input.now) money.now receive_max.now fates.now world q) }
 {
     if are_lawful_lossy(input, money, receive_max) {
         return play_lawful_fated(world, input, money, receive_max, fates);

@@ -1,13 +1,12 @@
 //! The lossless run as a method of a world.
 
-ghost use Rattle.std.specs.Prelude.{◌≡◌, ◌≤◌, ◌+◌, ℕ, true, false, IfErr, IfOk};
+ghost use Rattle.std.specs.Prelude.{◌≡◌, ◌+◌, ℕ, true, false, IfErr, IfOk};
 ghost use Rattle.std.specs.Result.{IsErrAnd};
 ghost use Rattle.st_world_parts.specs.State as state;
-ghost use Rattle.st_world.specs.Runs.{Chain, opening};
 ghost use Rattle.st_world.specs.Left.{left_of};
-ghost use Rattle.st_world_quiet.specs.Plays.{MayPlay, are_lawful, most_sends, sends_needed};
+ghost use Rattle.st_world_quiet.specs.Plays.{are_lawful};
 ghost use Rattle.st_world_quiet.specs.Playing.{Continues, bytes_of};
-ghost use Rattle.st_world_quiet.specs.Promised.{Delivers};
+ghost use Rattle.st_world_quiet.specs.Promised.{DeliversIfItMay, IsBoundedIfItMay, IsNeededIfItMay};
 
 use crate::fault::Fault;
 use crate::run::{Delivery, quiet};
@@ -34,9 +33,9 @@ pub trait Quiet<A: Allocator + Copy>: Sized {
         ensures only_memory { are_lawful (bytes_of input.now) money.now ≡ true → IfErr result (λ e. e.0 ≡ Fault.NoMemory) }
         ensures run { IfOk result (λ q. (w : state.World) × Continues (world self) w × (q.trace ≡ left_of w)) }
         ensures part { IfErr result (λ e. (w : state.World) × Continues (world self) w × (e.1 ≡ left_of w)) }
-        ensures delivered { IfOk result (λ q. (c : Chain) → world self ≡ opening c → MayPlay c (bytes_of input.now) money.now → q.trace.refused ≡ false → Delivers (bytes_of input.now) money.now (world self) q) }
-        ensures bounded { IfOk result (λ q. (c : Chain) → world self ≡ opening c → MayPlay c (bytes_of input.now) money.now → q.trace.refused ≡ false → q.sends + 1 ≤ most_sends c.config.packet_limit (bytes_of input.now) money.now) }
-        ensures sharper { IfOk result (λ q. (c : Chain) → world self ≡ opening c → MayPlay c (bytes_of input.now) money.now → q.trace.refused ≡ false → q.sends ≤ sends_needed c.config.packet_limit (bytes_of input.now) money.now) };
+        ensures delivered { IfOk result (λ q. DeliversIfItMay (bytes_of input.now) money.now (world self) q) }
+        ensures bounded { IfOk result (λ q. IsBoundedIfItMay (bytes_of input.now) money.now (world self) q) }
+        ensures sharper { IfOk result (λ q. IsNeededIfItMay (bytes_of input.now) money.now (world self) q) };
 }
 
 impl<A: Allocator + Copy> Quiet<A> for World<A> {

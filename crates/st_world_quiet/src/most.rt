@@ -1,7 +1,8 @@
 //! The greatest number of rounds of a lossless run.
 
-ghost use Rattle.std.specs.Prelude.{◌≡◌, ℕ, ◌<◌, ◌≤◌, ◌^◌, length, map, sum};
-ghost use Rattle.st_world_quiet.specs.Plays.{all_frames, are_lawful, sends_needed};
+ghost use Rattle.std.specs.Prelude.{◌≡◌, ◌<◌, ◌≤◌, ◌^◌, length, sum};
+ghost use Rattle.st_world_quiet.specs.Plays.{all_frames, are_lawful};
+ghost use Rattle.st_world_quiet.specs.Promised.{IsMoreThanNeeded};
 ghost use Rattle.st_world_quiet.specs.Playing.{bytes_of};
 
 /// The most streams that an end opens.
@@ -43,7 +44,7 @@ fn total(money: &[u64]) -> u64
 /// closes, and the last Send gives no Prepare.
 pub(crate) fn most_rounds(input: &[&[u8]], money: &[u64]) -> u64
     requires { length input.now ≤ 32 }
-    ensures { (limit : ℕ) → 0 < limit → sum (map length (bytes_of input.now)) < 2 ^ 63 → sum money.now < 2 ^ 63 → sends_needed limit (bytes_of input.now) money.now < result }
+    ensures { IsMoreThanNeeded (bytes_of input.now) money.now result }
 {
     let filled = frames_of(input).max(total(money));
     filled.saturating_add(input.len() as u64 + 1)

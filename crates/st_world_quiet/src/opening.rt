@@ -50,7 +50,8 @@ pub(crate) fn begin_each<A: Allocator + Copy>(
     money: &[u64],
 ) -> Result<(), Stop>
     ensures begins { OnOk result (BeginsEach (input_of (bytes_of input.now)) (money_of money.now) (length input.now) world.old world.new) }
-    ensures stops { IfErr result (λ e. Stops (IsStuck (input_of (bytes_of input.now)) (money_of money.now) (length input.now) world.old) ⊥ e world.old world.new) }
+    ensures stops { IfErr result (λ e. Stops (IsStuck (input_of (bytes_of input.now)) (money_of money.now) (length input.now) world.old)
+        ⊥ e world.old world.new) }
 {
     for place in 0..input.len() {
         let _opened = place;

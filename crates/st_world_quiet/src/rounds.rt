@@ -87,7 +87,8 @@ fn go_round<A: Allocator + Copy>(
     sends: &mut u64,
 ) -> Result<bool, Stop>
     requires { sends.old + 1 < 2 ^ 64 }
-    ensures round { IfOk result (λ went. MatchBool went (GoesOn (input_of (bytes_of input.now)) hops sends.old sends.new world.old world.new) (IsOver sends.old sends.new world.old world.new)) }
+    ensures round { IfOk result (λ went. MatchBool went (GoesOn (input_of (bytes_of input.now)) hops sends.old sends.new world.old world.new)
+        (IsOver sends.old sends.new world.old world.new)) }
     ensures stops { IfErr result (λ e. Stops ⊥ ⊥ e world.old world.new) }
 {
     let now = Moment::new(0).unwrap();

@@ -1,13 +1,12 @@
 //! A lossless run, played whole.
 
-ghost use Rattle.std.specs.Prelude.{◌≡◌, ◌<◌, ◌≤◌, ◌+◌, ℕ, true, false, length, IfErr, IfOk, OnOk};
+ghost use Rattle.std.specs.Prelude.{◌≡◌, ◌<◌, ◌+◌, ℕ, true, false, length, IfErr, IfOk, OnOk};
 ghost use Rattle.std.specs.Result.{IsErrAnd};
 ghost use Rattle.st_world_parts.specs.State as state;
-ghost use Rattle.st_world.specs.Runs.{Chain, opening};
 ghost use Rattle.st_world.specs.Left.{left_of};
-ghost use Rattle.st_world_quiet.specs.Plays.{MayPlay, are_lawful, input_of, money_of, most_sends, sends_needed};
+ghost use Rattle.st_world_quiet.specs.Plays.{are_lawful, input_of, money_of};
 ghost use Rattle.st_world_quiet.specs.Playing.{Continues, IsEndlessAfter, IsPlayed, IsStuckAfter, Stops, bytes_of};
-ghost use Rattle.st_world_quiet.specs.Promised.{Delivers, is_unrecorded};
+ghost use Rattle.st_world_quiet.specs.Promised.{DeliversIfItMay, IsBoundedIfItMay, IsNeededIfItMay, is_unrecorded};
 
 use crate::fault::Fault;
 use crate::most::{are_lawful, most_rounds};
@@ -62,9 +61,11 @@ fn play<A: Allocator + Copy>(
     sends: &mut u64,
 ) -> Result<(), Stop>
     requires { sends.old ≡ 0 }
-    ensures played { OnOk result (IsPlayed (input_of (bytes_of input.now)) (money_of money.now) (length input.now) (length world.old.nodes) sends.new world.old world.new) }
+    ensures played { OnOk result (IsPlayed (input_of (bytes_of input.now)) (money_of money.now) (length input.now) (length world.old.nodes)
+        sends.new world.old world.new) }
     ensures stops { IfErr result (λ e. Stops (IsStuckAfter (input_of (bytes_of input.now)) (money_of money.now) (length input.now) world.old)
-        (IsEndlessAfter (input_of (bytes_of input.now)) (money_of money.now) (length input.now) (length world.old.nodes) most world.old) e world.old world.new) }
+        (IsEndlessAfter (input_of (bytes_of input.now)) (money_of money.now) (length input.now) (length world.old.nodes) most world.old)
+        e world.old world.new) }
 {
     let hops = world.trace().hops();
     allow_each(world, money)?;
@@ -90,9 +91,9 @@ fn play_lawful<A: Allocator + Copy>(
     ensures only_memory { IfErr result (λ e. e.0 ≡ Fault.NoMemory) }
     ensures run { IfOk result (λ q. (w : state.World) × Continues world w × (q.trace ≡ left_of w)) }
     ensures part { IfErr result (λ e. (w : state.World) × Continues world w × (e.1 ≡ left_of w)) }
-    ensures delivered { IfOk result (λ q. (c : Chain) → world ≡ opening c → MayPlay c (bytes_of input.now) money.now → q.trace.refused ≡ false → Delivers (bytes_of input.now) money.now world q) }
-    ensures bounded { IfOk result (λ q. (c : Chain) → world ≡ opening c → MayPlay c (bytes_of input.now) money.now → q.trace.refused ≡ false → q.sends + 1 ≤ most_sends c.config.packet_limit (bytes_of input.now) money.now) }
-    ensures sharper { IfOk result (λ q. (c : Chain) → world ≡ opening c → MayPlay c (bytes_of input.now) money.now → q.trace.refused ≡ false → q.sends ≤ sends_needed c.config.packet_limit (bytes_of input.now) money.now) }
+    ensures delivered { IfOk result (λ q. DeliversIfItMay (bytes_of input.now) money.now world q) }
+    ensures bounded { IfOk result (λ q. IsBoundedIfItMay (bytes_of input.now) money.now world q) }
+    ensures sharper { IfOk result (λ q. IsNeededIfItMay (bytes_of input.now) money.now world q) }
 {
     let most = most_rounds(input, money);
     let mut sends = 0;
@@ -114,9 +115,9 @@ pub(crate) fn quiet<A: Allocator + Copy>(
     ensures only_memory { are_lawful (bytes_of input.now) money.now ≡ true → IfErr result (λ e. e.0 ≡ Fault.NoMemory) }
     ensures run { IfOk result (λ q. (w : state.World) × Continues world w × (q.trace ≡ left_of w)) }
     ensures part { IfErr result (λ e. (w : state.World) × Continues world w × (e.1 ≡ left_of w)) }
-    ensures delivered { IfOk result (λ q. (c : Chain) → world ≡ opening c → MayPlay c (bytes_of input.now) money.now → q.trace.refused ≡ false → Delivers (bytes_of input.now) money.now world q) }
-    ensures bounded { IfOk result (λ q. (c : Chain) → world ≡ opening c → MayPlay c (bytes_of input.now) money.now → q.trace.refused ≡ false → q.sends + 1 ≤ most_sends c.config.packet_limit (bytes_of input.now) money.now) }
-    ensures sharper { IfOk result (λ q. (c : Chain) → world ≡ opening c → MayPlay c (bytes_of input.now) money.now → q.trace.refused ≡ false → q.sends ≤ sends_needed c.config.packet_limit (bytes_of input.now) money.now) }
+    ensures delivered { IfOk result (λ q. DeliversIfItMay (bytes_of input.now) money.now world q) }
+    ensures bounded { IfOk result (λ q. IsBoundedIfItMay (bytes_of input.now) money.now world q) }
+    ensures sharper { IfOk result (λ q. IsNeededIfItMay (bytes_of input.now) money.now world q) }
 {
     if are_lawful(input, money) {
         return play_lawful(world, input, money);
