@@ -10,7 +10,7 @@ use Rattle.st_world_quiet.specs.Losses.{Fate}
 use Rattle.st_world_quiet.specs.LostWorlds.{MayPlayLossy}
 use Rattle.st_world_quiet.specs.Fates.{HasRoomToLose}
 
--- the hop's account takes a Prepare of the packet limit, and all amounts
+-- the hop's account accepts a Prepare of the packet limit, and all amounts
 abbrev pub HasRoomFor : Config → (ms : List ℕ) → Account → Type 0
 HasRoomFor config ms a = (config.packet_limit ≤ a.max_packet) × (sum ms ≤ a.limit)
 

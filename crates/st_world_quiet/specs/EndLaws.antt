@@ -56,7 +56,7 @@ RoundsStayQuiet =
     → Rounds n m s t
     → IsQuiet n t
 
--- where nothing is left no Send gives a Prepare
+-- if nothing is left, no Send gives a Prepare
 abbrev pub NothingLeftSendsNothing : Type 0
 NothingLeftSendsNothing =
     (n : ℕ → ℕ) (s : Sending) (limits : List Known) (p : Load)
@@ -64,7 +64,7 @@ NothingLeftSendsNothing =
     → work_left n s ≡ 0
     → ¬ Sends s limits max_packet p (with_flight s p)
 
--- where only closes are left a Send gives a close
+-- if only closes are left, a Send gives a close
 abbrev pub ACloseIsSent : Type 0
 ACloseIsSent =
     (n : ℕ → ℕ) (s : Sending) (limits : List Known) (k : ℕ) (x : Outgoing)
@@ -76,7 +76,7 @@ ACloseIsSent =
     → (let p = load_with s (StreamClose k 1 [] ∷ []) in
     Sends s limits max_packet p (with_flight s p) × Fills s limits max_packet p)
 
--- what a peer tells of a small packet suffices for the next Send
+-- what a peer advertises of a small packet suffices for the next Send
 abbrev pub ReplyTellsEnough : Type 0
 ReplyTellsEnough =
     (n : ℕ → ℕ) (s : Sending) (limits : List Known) (p : Load) (told : List Known)
@@ -134,7 +134,7 @@ LoadIsFulfilled =
     → IsPacketOf p q
     → fault_of r q p.amount ≡ None
 
--- the reply of a level receiver is what a peer tells
+-- the reply of a level receiver is that of such a peer
 abbrev pub ReplyIsAPeers : Type 0
 ReplyIsAPeers =
     (n : ℕ → ℕ) (s : Sending) (limits : List Known) (p : Load) (q : Packet) (r : Receiving)
@@ -224,7 +224,7 @@ ExchangesKeepAbreast =
     → Exchanges n m s r t u
     → IsQuiet n t × IsAbreast n t u
 
--- where nothing is left a level receiver has read and credited all
+-- if nothing is left, a level receiver has read and credited all
 abbrev pub AbreastDelivers : Type 0
 AbreastDelivers =
     (n : ℕ → ℕ) (s : Sending) (r : Receiving) (k : ℕ) (x : Outgoing)
@@ -264,7 +264,7 @@ WriteIsFull =
     → x.acked_end + 262144 < x.accepted + count
     → write_refusal s k count ≡ Some Full
 
--- a stream whose input goes on is written as far as it fits
+-- a stream whose input continues is written as far as it fits
 abbrev pub WrittenOn : Type 0
 WrittenOn =
     (n : ℕ) (x : Outgoing) (more : List ℕ)

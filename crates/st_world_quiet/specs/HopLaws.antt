@@ -83,7 +83,7 @@ CrossingIsTurn =
     → Crossing input limit e hops f g others h
     → Turn input limit e f g h
 
--- what held of both ends holds again
+-- what is so of both ends at the start is so again
 abbrev pub CrossingKeepsStanding : Type 0
 CrossingKeepsStanding =
     (input : ℕ → List ℕ) (limit : ℕ) (e f g h : EndState) (hops others : List Hop)

@@ -95,7 +95,7 @@ TriesFailNothing =
     → AreFew 0 fates
     → t.failed ≡ false
 
--- where nothing is left each stream was read, and has what was offered and what the lost answers carried
+-- if nothing is left, each stream was read, and has what was offered and what the lost answers carried
 abbrev pub TriesDeliver : Type 0
 TriesDeliver =
     (n : ℕ → ℕ) (config : Config) (fates : List Fate) (s t : Sending) (u : Receiving) (parity : ℕ) (kept : List ℕ)
@@ -274,7 +274,7 @@ LossyTurnsEnd =
     → outgoing_at g.sending k ≡ Some x
     → got bytes (incoming_at h.receiving k).held ≡ End)
 
--- where only closes are left a Prepare may be lost
+-- if only closes are left, a Prepare may be lost
 abbrev pub APrepareMayBeLost : Type 0
 APrepareMayBeLost =
     (n : ℕ → ℕ) (c : Tally) (s : Sending) (r : Receiving) (k : ℕ) (x : Outgoing)
