@@ -8,12 +8,14 @@
 
 mod delivery;
 mod ends;
+mod faults;
 mod inlet;
 mod ivs;
 mod lobby;
 mod receive;
 mod receiver;
 mod send;
+mod threads;
 mod told_link;
 mod workers;
 

@@ -4,25 +4,18 @@ ghost use Rattle.std.specs.Prelude.{◌≡◌, ℕ, length, Err, IfErr, IfOk, If
 ghost use Rattle.std.specs.Duration.{as_nanos};
 ghost use Rattle.st_end.specs.Seen.{totals_seen};
 ghost use Rattle.st_queues.specs.Lanes.{ring_at};
-ghost use Rattle.st_end.specs.Totals as totals;
 ghost use Rattle.st_file.specs.Errors.{counted};
 ghost use Rattle.st_hub.specs.Hub.{IsNew};
-ghost use Rattle.ilpstream_ends.specs.Keeping.{file_stream};
 ghost use Rattle.ilpstream_serving.specs.Moments.{pause_in};
-ghost use Rattle.ilpstream_ends.specs.Outcomes as outcomes;
 ghost use Rattle.ilpstream_ends.specs.Outcomes.{ComesTo, IsTold, OpensWith, WhyNotBegun, no_totals};
 ghost use Rattle.ilpstream_serving.specs.declared.error.TransferError.TheVariants.{Rings as NoRings};
 
-use crate::delivery::STREAM;
-use crate::inlet::{Inlet, Until};
+use crate::faults::told;
 use crate::ivs::ReaderIvs;
-use crate::told_link::Told;
-use crate::workers::work_alone;
+use crate::threads::{Shared, feed_beside};
 use ilpstream_serving::{Ended, LastMoment, Latest, SendTerms, TransferError, Watch};
-use st_devices::Counting;
 use st_end::{EndState, Totals};
-use st_file::{FileError, send_all};
-use st_hub::{Bench, HubState, Ivs, WorkEnd};
+use st_hub::{Bench, HubState};
 use st_queues::{Gauge, GaugeSeat, HubName, Rings, StreamWriter};
 use std::alloc::Global;
 use std::io::Read;
@@ -30,7 +23,6 @@ use std::marker::Brand;
 use std::net::Net;
 use std::sync::ledger::Blank;
 use std::sync::{Mutex, Wait};
-use std::thread;
 use std::thread::{Parker, Threads};
 use std::time::Duration;
 
@@ -53,97 +45,6 @@ fn bench_of<N: HubName<Global>>(hub: HubState<N, Global>, terms: &SendTerms<'_>)
     ensures { as_nanos result.pause ≡ pause_in terms.now.patience }
 {
     Bench::with_pause(hub, pause_of(terms.patience))
-}
-
-/// The error for why a worker ended, if it is an error.
-fn fault_of(end: WorkEnd) -> Option<TransferError>
-    ensures { result ≡ outcomes.fault_of end }
-{
-    match end {
-        WorkEnd::Stopped => None,
-        WorkEnd::Failed => Some(TransferError::Failed),
-        WorkEnd::IvFault => Some(TransferError::IvFault),
-        WorkEnd::NoMemory => Some(TransferError::NoMemory),
-        WorkEnd::Turns => Some(TransferError::Turns),
-        WorkEnd::Settled => None,
-        WorkEnd::Stalled => Some(TransferError::Stalled),
-    }
-}
-
-/// The first error of the workers, or otherwise the last argument.
-fn first_fault(ends: &[WorkEnd], last: TransferError) -> TransferError
-    ensures { result ≡ outcomes.first_fault ends.now last }
-{
-    match ends {
-        [] => last,
-        [end, rest @ ..] => match fault_of(*end) {
-            Some(fault) => fault,
-            None => first_fault(rest, last),
-        },
-    }
-}
-
-/// The error of the connection, or otherwise the first of the workers, or otherwise the last argument.
-fn fault_told(failed: bool, ends: &[WorkEnd], last: TransferError) -> TransferError
-    ensures { result ≡ outcomes.fault_told failed ends.now last }
-{
-    if failed {
-        return TransferError::Failed;
-    }
-    first_fault(ends, last)
-}
-
-/// The result of a transfer.
-fn told<N: HubName<Global>>(
-    hub: &HubState<N, Global>,
-    fed: Result<u64, FileError>,
-    ends: &[WorkEnd],
-) -> Result<u64, TransferError>
-    ensures { result ≡ outcomes.outcome (totals.settled hub.now.flow.core file_stream) hub.now.flow.core.sending.failed ends.now fed }
-{
-    match fed {
-        Ok(sent) => {
-            if hub.settled(STREAM) {
-                return Ok(sent);
-            }
-            Err(fault_told(hub.is_failed(), ends, TransferError::Turns))
-        }
-        Err(error) => Err(fault_told(hub.is_failed(), ends, TransferError::File(error))),
-    }
-}
-
-/// Moves the input to the ring of its stream. If that fails, the workers are asked to stop.
-fn feed<I: Read + Drop, N: HubName<Global>, R: Wait + std::time::Clock>(
-    rt: &R,
-    alloc: Global,
-    bench: &Bench<N, Global>,
-    input: I,
-    writer: StreamWriter<N, Global>,
-    gauge: &Gauge<N, Global>,
-    seat: &mut GaugeSeat<N, Global>,
-    turns: u64,
-) -> Result<u64, FileError>
-    ensures { IfOk result (λ n. IfSome (I.remaining input) (λ bytes. n ≡ counted (length bytes))) }
-{
-    let mut reader = Counting::new(Until {
-        input,
-        gauge,
-        seat: gauge.split(seat),
-    });
-    let mut inlet = Inlet {
-        rt,
-        bench,
-        writer,
-        gauge,
-        seat: gauge.split(seat),
-        accepted: 0,
-    };
-    let fed = send_all(alloc, &mut reader, &mut inlet, turns);
-    if fed.is_err() {
-        gauge.ask_stop(seat);
-        bench.wake_all(rt);
-    }
-    fed
 }
 
 /// A hub whose stream 1 is open, with the writer of that stream, and a gauge of the hub.
@@ -198,153 +99,6 @@ fn open<N: HubName<Global>>(
         }),
         Err(error) => Err(error),
     }
-}
-
-/// What the threads of a transfer share.
-#[derive(Drop)]
-struct Shared<'a, N: HubName<Global>, G> {
-    alloc: Global,
-    bench: Bench<N, Global>,
-    gauge: Gauge<N, Global>,
-    /// The seat at the gauge from which each worker gets its own.
-    seat: Mutex<GaugeSeat<N, Global>>,
-    ivs: Mutex<ReaderIvs<G>>,
-    /// The moment that the clock gave last, to any worker.
-    moment: Mutex<LastMoment>,
-    /// Why the workers ended, in the order in which they did.
-    ends: Mutex<Vec<WorkEnd>>,
-    terms: SendTerms<'a>,
-    /// Whether somebody watches the progress of the transfer.
-    is_watched: bool,
-    last: Latest,
-    /// Puts the thread that reports it to sleep.
-    parker: Parker,
-}
-
-/// Notes why a worker ended, if there is room for that.
-fn note_end<N: HubName<Global>, G>(rt: &impl Wait, shared: &Shared<'_, N, G>, end: WorkEnd) {
-    let _ = shared.ends.lock(rt).push(end);
-}
-
-/// What an end has done so far, by its hub's gauge.
-fn totals_so_far<N: HubName<Global>>(
-    gauge: &Gauge<N, Global>,
-    seat: &mut GaugeSeat<N, Global>,
-) -> Totals
-    ensures bytes { (result.accepted ≡ seat.new.totals.accepted) × (result.delivered ≡ seat.new.totals.delivered) }
-    ensures units { (result.credited ≡ seat.new.totals.credited) × (result.paid ≡ seat.new.totals.paid) }
-{
-    let seen = gauge.seen(seat);
-    Totals {
-        accepted: seen.accepted,
-        delivered: seen.delivered,
-        credited: seen.credited,
-        paid: seen.paid,
-    }
-}
-
-/// Reports the progress of the transfer, each period, until the workers are asked to stop. It does not lock the hub.
-fn watch_beside<N: HubName<Global>, G, V: Watch + Drop, R: Wait>(
-    rt: &R,
-    shared: &Shared<'_, N, G>,
-    seat: GaugeSeat<N, Global>,
-    watch: V,
-    period: Duration,
-) {
-    let mut seat = seat;
-    let mut watch = watch;
-    for _ in rt.forever() {
-        shared.parker.park_timeout(rt, period);
-        if shared.gauge.stopped(&mut seat) {
-            break;
-        }
-        let totals = totals_so_far(&shared.gauge, &mut seat);
-        watch.look(&totals, shared.last.waits(totals.paid), shared.last.seen());
-    }
-    watch.end();
-}
-
-/// Runs one worker, and notes why it ended.
-fn work_noting<N: HubName<Global>, G: Read, R: Net + Wait + std::time::Clock>(
-    rt: &R,
-    shared: &Shared<'_, N, G>,
-) {
-    let Shared {
-        alloc,
-        bench,
-        gauge,
-        seat,
-        ivs,
-        moment,
-        terms,
-        last,
-        ..
-    } = shared;
-    let told = Told {
-        log: terms.log,
-        last: if shared.is_watched { Some(last) } else { None },
-    };
-    let end = work_alone(rt, *alloc, bench, gauge, seat, ivs, moment, *terms, told);
-    note_end(rt, shared, end);
-    shared.parker.unpark();
-}
-
-/// Moves the input to the ring while the workers send, each in a thread of its own, and one more reports the progress, if
-/// that is asked for. If too few threads can be made, fewer workers send, or nothing is reported; if none can, nothing is
-/// sent. Returns how much input was moved.
-fn feed_beside<
-    'a,
-    N: HubName<Global> + Send + Sync,
-    I: Read + Drop,
-    G: Read + Drop + Send,
-    V: Watch + Drop + Send,
-    R: Net + Threads + Wait + std::time::Clock + Sync,
->(
-    rt: &'a R,
-    shared: &'a Shared<'a, N, G>,
-    writer: StreamWriter<N, Global>,
-    seat: GaugeSeat<N, Global>,
-    input: I,
-    watch: V,
-) -> Result<u64, FileError>
-where
-    R::Stream: Send,
-    R::Listener: Send,
-    ensures { IfOk result (λ n. IfSome (I.remaining input) (λ bytes. n ≡ counted (length bytes))) }
-{
-    thread::scope(
-        thread::scope_env(),
-        rt,
-        move |scope| -> Result<u64, FileError>
-            ensures { IfOk result (λ n. IfSome (I.remaining input) (λ bytes. n ≡ counted (length bytes))) }
-        {
-            let mut own = seat;
-            let mut has_worker = false;
-            for _ in 0..shared.terms.workers {
-                has_worker |= scope.spawn(move || work_noting(rt, shared)).is_ok();
-            }
-            if !has_worker {
-                note_end(rt, shared, WorkEnd::NoMemory);
-                shared.gauge.ask_stop(&mut own);
-                shared.parker.unpark();
-            }
-            if let Some(period) = watch.period() {
-                let seat = shared.gauge.split(&mut own);
-                let _ = scope.spawn(move || watch_beside(rt, shared, seat, watch, period));
-            }
-            let (alloc, turns) = (shared.alloc, shared.terms.turns);
-            feed(
-                rt,
-                alloc,
-                &shared.bench,
-                input,
-                writer,
-                &shared.gauge,
-                &mut own,
-                turns,
-            )
-        },
-    )
 }
 
 /// Sends over an open hub.
