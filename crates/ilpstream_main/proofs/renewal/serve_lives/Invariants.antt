@@ -1,5 +1,5 @@
 use Rattle.ilpstream_main.specs.Table.{Lives}
-use Rattle.ilpstream_main.proofs.connector.serve_lives.Given as goal
+use Rattle.ilpstream_main.proofs.renewal.serve_lives.Given as goal
 
 -- how it ended last is how it may end that began by its first table
 abbrev pub invariant-loop : goal.invariant-loop
