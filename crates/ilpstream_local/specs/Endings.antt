@@ -133,7 +133,7 @@ Explains asked input e = ⊤
 
 -- a run: e and f are the writer for errors at the start and now
 pub record RunsLocal {E : Type 0} (asked : LocalSettings) (input before now : Option (List ℕ))
-  (ended : Option LocalFault → Type 0) (said : E → Option (List ℕ)) (e f : Counting E) (status : ℕ) : Type 0 where
+    (ended : Option LocalFault → Type 0) (said : E → Option (List ℕ)) (e f : Counting E) (status : ℕ) : Type 0 where
   pub done : status ≡ 0 → (f ≡ e) × ended None × IfSome input (λ bytes. Appends before now bytes × (length bytes ≤ most_bytes))
       × ((told : LocalSends) × GoesOver asked input told)
   pub refused : status ≡ 1 → (x : LocalFault) × ended (Some x) × Explains asked input x × (ComesBefore x → now ≡ before) × TellsFault x said e f status
