@@ -46,7 +46,8 @@ StopsWrite left e = ⊥
 -- each call of the reader, r before and s now, and of the writer, w before and v now, used up one of the calls that were left, and nothing
 -- else did
 abbrev pub SpendsTurns : Tally → Tally → Tally → Tally → ℕ → ℕ → Type 0
-SpendsTurns r s w v before after = (reads : ℕ) × (writes : ℕ) × (before ≡ after + reads + writes) × (s.calls ≡ count_after reads r.calls) × (v.calls ≡ count_after writes w.calls)
+SpendsTurns r s w v before after =
+    (reads : ℕ) × (writes : ℕ) × (before ≡ after + reads + writes) × (s.calls ≡ count_after reads r.calls) × (v.calls ≡ count_after writes w.calls)
 
 -- if nothing waited for a flush before, nothing does now
 abbrev pub StaysFlushed : Tally → Tally → Type 0
@@ -98,7 +99,8 @@ EndsWith Last size streams bytes p q = Scheduled size streams bytes (Last size s
 
 -- one in which the two ends sent as many Prepares as these numbers say
 abbrev pub IsTold : LocalSettings → List ℕ → LocalSends → Played → Type 0
-IsTold asked bytes told p = (sent : ℕ) × (returned : ℕ) × IsRun asked bytes (EndsWith (LastRound sent returned)) p × AreOf asked (length bytes) sent returned told
+IsTold asked bytes told p =
+    (sent : ℕ) × (returned : ℕ) × IsRun asked bytes (EndsWith (LastRound sent returned)) p × AreOf asked (length bytes) sent returned told
 
 -- one in which each part of the input was read
 abbrev pub GoesOver : LocalSettings → Option (List ℕ) → LocalSends → Type 0
@@ -130,8 +132,10 @@ Explains asked input fault.Events = TakesTooLong asked input
 Explains asked input e = ⊤
 
 -- a run: e and f are the writer for errors at the start and now
-pub record RunsLocal {E : Type 0} (asked : LocalSettings) (input before now : Option (List ℕ)) (ended : Option LocalFault → Type 0) (said : E → Option (List ℕ)) (e f : Counting E) (status : ℕ) : Type 0 where
-  pub done : status ≡ 0 → (f ≡ e) × ended None × IfSome input (λ bytes. Appends before now bytes × (length bytes ≤ most_bytes)) × ((told : LocalSends) × GoesOver asked input told)
+pub record RunsLocal {E : Type 0} (asked : LocalSettings) (input before now : Option (List ℕ))
+    (ended : Option LocalFault → Type 0) (said : E → Option (List ℕ)) (e f : Counting E) (status : ℕ) : Type 0 where
+  pub done : status ≡ 0 → (f ≡ e) × ended None × IfSome input (λ bytes. Appends before now bytes × (length bytes ≤ most_bytes))
+      × ((told : LocalSends) × GoesOver asked input told)
   pub refused : status ≡ 1 → (x : LocalFault) × ended (Some x) × Explains asked input x × (ComesBefore x → now ≡ before) × TellsFault x said e f status
   pub part : IfSome input (λ bytes. WritesPart bytes before now)
   pub bound : status ≤ 1

@@ -295,7 +295,8 @@ BreaksOff size streams input p q = BeginsEach opens streams p q ⊎ Scheduled si
 
 -- why it ends before all is done
 abbrev pub StopsSending : (size streams : ℕ) → (input : List ℕ) → Played → Played → LocalFault → Type 0
-StopsSending size streams input p q fault.Failed = Plays q.asked q.events q.world × HasFailed q.world × Scheduled size streams input (FailedRound size streams input) p q
+StopsSending size streams input p q fault.Failed =
+    Plays q.asked q.events q.world × HasFailed q.world × Scheduled size streams input (FailedRound size streams input) p q
 StopsSending size streams input p q fault.Events = (q.events ≡ most_events) × Plays q.asked q.events q.world × BreaksOff size streams input p q
 StopsSending size streams input p q fault.NoMemory = BreaksOff size streams input p q
 StopsSending size streams input p q e = ⊥

@@ -29,8 +29,10 @@ fn put_parts<A: Allocator + Copy, W: Write>(
     turns: &mut u64,
 ) -> Result<(), LocalFault>
     requires { streams ≤ 32 }
-    ensures whole { OnOk result (Appends (W.contents (device_of writer.old)) (W.contents (device_of writer.new)) (joined (λ place. read_on play.now.world (stream_at place)) streams)) }
-    ensures part { WritesPart (joined (λ place. read_on play.now.world (stream_at place)) streams) (W.contents (device_of writer.old)) (W.contents (device_of writer.new)) }
+    ensures whole { OnOk result (Appends (W.contents (device_of writer.old)) (W.contents (device_of writer.new))
+        (joined (λ place. read_on play.now.world (stream_at place)) streams)) }
+    ensures part { WritesPart (joined (λ place. read_on play.now.world (stream_at place)) streams)
+        (W.contents (device_of writer.old)) (W.contents (device_of writer.new)) }
     ensures faults { (tally_of writer.new).faults ≡ writer_faults (fault_of result) (tally_of writer.old).faults }
     ensures flushed { OnOk result (StaysFlushed (tally_of writer.old) (tally_of writer.new)) }
     ensures turns { TakesTurns (tally_of writer.old) (tally_of writer.new) turns.old turns.new }
@@ -119,8 +121,10 @@ pub fn play_local<A: Allocator + Copy, R: Read, W: Write>(
     requires hops { settings.now.hops ≤ 8 }
     requires some { 0 < settings.now.streams }
     requires streams { settings.now.streams ≤ 32 }
-    ensures whole { OnOk result (IfSome (R.remaining (device_of reader.old)) (λ bytes. Appends (W.contents (device_of writer.old)) (W.contents (device_of writer.new)) bytes × (length bytes ≤ most_bytes))) }
-    ensures part { IfSome (R.remaining (device_of reader.old)) (λ bytes. WritesPart bytes (W.contents (device_of writer.old)) (W.contents (device_of writer.new))) }
+    ensures whole { OnOk result (IfSome (R.remaining (device_of reader.old)) (λ bytes.
+        Appends (W.contents (device_of writer.old)) (W.contents (device_of writer.new)) bytes × (length bytes ≤ most_bytes))) }
+    ensures part { IfSome (R.remaining (device_of reader.old)) (λ bytes.
+        WritesPart bytes (W.contents (device_of writer.old)) (W.contents (device_of writer.new))) }
     ensures over { OnOk result (GoesOver settings.now (R.remaining (device_of reader.old)) sends.new) }
     ensures why { IfErr result (Explains settings.now (R.remaining (device_of reader.old))) }
     ensures untouched { IfErr result (λ e. ComesBefore e → writer.new ≡ writer.old) }

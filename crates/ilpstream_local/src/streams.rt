@@ -48,7 +48,8 @@ fn write_piece<A: Allocator + Copy>(
     ensures within { sent.new ≤ length input.now }
     ensures some { IfOk result (λ taken. taken ≡ true → sent.old < sent.new) }
     ensures why { IfErr result (StopsPlay play.new) }
-    ensures denied { IfOk result (λ taken. taken ≡ false → (sent.new ≡ sent.old) × IsDenied (next_write (part_size (length input.now) streams) input.now sent.old) play.old play.new) }
+    ensures denied { IfOk result (λ taken. taken ≡ false
+        → (sent.new ≡ sent.old) × IsDenied (next_write (part_size (length input.now) streams) input.now sent.old) play.old play.new) }
 {
     let size = part_size(input.len(), streams);
     let place = *sent / size;
@@ -204,7 +205,8 @@ fn take_turns<A: Allocator + Copy>(
     requires counted { IsCounted play.old.asked.lose play.old.events progress.old.counts }
     ensures within { OnOk result (progress.new.sent ≤ length input.now) }
     ensures counted { OnOk result (IsCounted play.new.asked.lose play.new.events progress.new.counts) }
-    ensures round { OnOk result (Round (part_size (length input.now) streams) streams input.now (reach_of progress.old) (reach_of progress.new) play.old play.new) }
+    ensures round { OnOk result (Round (part_size (length input.now) streams) streams input.now
+        (reach_of progress.old) (reach_of progress.new) play.old play.new) }
     ensures begun { OnErr result (BeginsRound (part_size (length input.now) streams) streams input.now (reach_of progress.old) play.old play.new) }
     ensures over { IfOk result (λ done. done ≡ true ↔ IsOver streams (length input.now) (reach_of progress.new) play.new.world) }
     ensures sent { Sends (part_size (length input.now) streams) input.now progress.old.sent progress.new.sent play.old play.new }
@@ -235,9 +237,11 @@ pub(crate) fn send_parts<A: Allocator + Copy>(
     ensures asked { play.new.asked ≡ play.old.asked }
     ensures sent { (sent : ℕ) × HasSent (part_size (length input.now) streams) input.now sent play.new.world }
     ensures run { OnOk result (Plays play.new.asked play.new.events play.new.world) }
-    ensures scheduled { IfOk result (λ counts. Scheduled (part_size (length input.now) streams) streams input.now (LastRound counts.sent counts.returned (part_size (length input.now) streams) streams input.now) play.old play.new) }
+    ensures scheduled { IfOk result (λ counts. Scheduled (part_size (length input.now) streams) streams input.now
+        (LastRound counts.sent counts.returned (part_size (length input.now) streams) streams input.now) play.old play.new) }
     ensures counted { IfOk result (λ counts. IsCounted play.new.asked.lose play.new.events counts) }
-    ensures delivered { OnOk result ((place : ℕ) → place < streams → read_on play.new.world (stream_at place) ≡ part_at (part_size (length input.now) streams) input.now place) }
+    ensures delivered { OnOk result ((place : ℕ) → place < streams
+        → read_on play.new.world (stream_at place) ≡ part_at (part_size (length input.now) streams) input.now place) }
     ensures why { IfErr result (StopsSending (part_size (length input.now) streams) streams input.now play.old play.new) }
 {
     open_streams(play, streams)?;

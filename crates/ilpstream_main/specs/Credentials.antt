@@ -25,7 +25,8 @@ unread fault.NoMemory = run.Fault fault.NoMemory
 -- the line has none, or if the input could not be read whole, by what its reader counted: r before and s now
 abbrev pub ComesOfLine : {X : Type 0} → (Is : List ℕ → X → Type 0) → (input : Option (List ℕ)) → (r s : Tally) → Result X RunError → Type 0
 ComesOfLine Is input r s (Ok x) = IfSome input (λ bytes. Is (first_line bytes) x)
-ComesOfLine {X} Is input r s (Err run.BadOption) = IfSome input (λ bytes. (x : X) → ¬ (Is (first_line bytes) x)) ⊎ FailsToRead fault.Input r s ⊎ FailsToRead fault.Turns r s
+ComesOfLine {X} Is input r s (Err run.BadOption) =
+    IfSome input (λ bytes. (x : X) → ¬ (Is (first_line bytes) x)) ⊎ FailsToRead fault.Input r s ⊎ FailsToRead fault.Turns r s
 ComesOfLine Is input r s (Err (run.Fault x)) = x ≡ fault.NoMemory
 ComesOfLine Is input r s (Err run.NoRandom) = ⊥
 ComesOfLine Is input r s (Err run.NoListener) = ⊥

@@ -9,6 +9,8 @@ use Rattle.ilpstream_frames.specs.Endings.{RunsFrames, Says, TellsFault}
 use Rattle.ilpstream_frames.specs.Errors.{fault_number}
 use Rattle.ilpstream_frames.specs.Texts.{fault_text}
 use Rattle.ilpstream_local.specs.Endings as local
+use Rattle.ilpstream_settings.specs.declared.settings.ConnectorSettings.{ConnectorSettings}
+use Rattle.ilpstream_settings.specs.declared.settings.LocalSettings.{LocalSettings}
 use Rattle.ilpstream_words.specs.declared.request.Request.{Request}
 use Rattle.ilpstream_words.specs.declared.request.Request.TheVariants as request
 use Rattle.ilpstream_main.specs.declared.error.RunError.{RunError}
@@ -50,28 +52,43 @@ TellsLocal (Ok x) said e f status = (status ≡ 0) × (f ≡ e)
 TellsLocal (Err x) said e f status = TellsNumber (ends.fault_number x) said e f status
 
 -- a command of one end ended, and that was reported. If an option was bad, its stream was not touched
-abbrev pub Ends : {E : Type 0} → (untouched : Type 0) → (ends : Result (Unit {0}) RunError → Type 0) → (E → Option (List ℕ)) → Counting E → Counting E → ℕ → Type 0
+abbrev pub Ends : {E : Type 0} → (untouched : Type 0) → (ends : Result (Unit {0}) RunError → Type 0) → (E → Option (List ℕ))
+    → Counting E → Counting E → ℕ → Type 0
 Ends untouched ends said e f status = (end : Result (Unit {0}) RunError) × (end ≡ Err run.BadOption → untouched) × ends end × TellsEnd end said e f status
+
+-- `local` with a file for its totals ended so, r and w the reader and the writer at the start, s and v now
+abbrev pub EndsLocalOver : {R W : Type 0} → LocalSettings → (R → Option (List ℕ)) → (W → Option (List ℕ)) → Counting R → Counting R
+    → Counting W → Counting W → Result (Unit {0}) LocalError → Type 0
+EndsLocalOver asked remaining contents r s w v end =
+    EndsLocal asked (remaining (device_of r)) (contents (device_of w)) (contents (device_of v)) ((s ≡ r) × (v ≡ w)) (v ≡ w) end
+
+-- a connector with these settings ended so, r the reader at the start and s now
+abbrev pub EndsConnector : {R : Type 0} → ConnectorSettings → (R → Option (List ℕ)) → Counting R → Counting R
+    → Result (Unit {0}) RunError → Type 0
+EndsConnector x remaining r s end =
+    EndsByTable x.table x.own.now x.ledger (remaining (device_of r)) (tally_of r) (tally_of s) (s ≡ r) end
 
 -- what was asked for was done: r, w and e are the reader, the writer and the writer for errors at the start, s, v and f now
 abbrev pub Does : {R W E : Type 0} → Request → (R → Option (List ℕ)) → (W → Option (List ℕ)) → (E → Option (List ℕ)) → (Option Fault → Type 0)
     → Counting R → Counting R → Counting W → Counting W → Counting E → Counting E → ℕ → Type 0
-Does request.Frames remaining contents said ended r s w v e f status = RunsFrames (remaining (device_of r)) (contents (device_of w)) (contents (device_of v)) ended said e f status
+Does request.Frames remaining contents said ended r s w v e f status =
+    RunsFrames (remaining (device_of r)) (contents (device_of w)) (contents (device_of v)) ended said e f status
 Does (request.Local x) remaining contents said ended r s w v e f status = MatchOption x.totals
     (local.RunsLocal x.settings (remaining (device_of r)) (contents (device_of w)) (contents (device_of v))
     (local.HasEnded (tally_of r) (tally_of s) (tally_of w) (tally_of v)) said e f status)
-    (λ name. (end : Result (Unit {0}) LocalError) × EndsLocal x.settings (remaining (device_of r)) (contents (device_of w)) (contents (device_of v)) ((s ≡ r) × (v ≡ w)) (v ≡ w) end × TellsLocal end said e f status)
+    (λ name. (end : Result (Unit {0}) LocalError) × EndsLocalOver x.settings remaining contents r s w v end × TellsLocal end said e f status)
 Does (request.Send x) remaining contents said ended r s w v e f status = (v ≡ w) × Ends (s ≡ r) (EndsSend x) said e f status
-Does (request.Receive x) remaining contents said ended r s w v e f status = (s ≡ r) × Ends (v ≡ w) (EndsReceive x (contents (device_of w)) (contents (device_of v))) said e f status
+Does (request.Receive x) remaining contents said ended r s w v e f status =
+    (s ≡ r) × Ends (v ≡ w) (EndsReceive x (contents (device_of w)) (contents (device_of v))) said e f status
 Does (request.Connector x) remaining contents said ended r s w v e f status =
-    (v ≡ w) × ((end : Result (Unit {0}) RunError) × EndsByTable x.table x.own.now x.ledger (remaining (device_of r)) (tally_of r) (tally_of s) (s ≡ r) end × TellsEnd end said e f status)
+    (v ≡ w) × ((end : Result (Unit {0}) RunError) × EndsConnector x remaining r s end × TellsEnd end said e f status)
 Does (request.Ledger x) remaining contents said ended r s w v e f status =
     (s ≡ r) × ((end : Result (Unit {0}) RunError) × EndsLedger contents x.payment w v end × TellsEnd end said e f status)
 Does (request.Explain n) remaining contents said ended r s w v e f status = (s ≡ r) × Explains n contents said ended w v e f status
 
 -- a command that needs a closed stream reads and writes nothing and reports that; any other is done
-abbrev pub DoesUnless : {R W E : Type 0} → (missing : Option Fault) → Request → (R → Option (List ℕ)) → (W → Option (List ℕ)) → (E → Option (List ℕ)) → (Option Fault → Type 0)
-    → Counting R → Counting R → Counting W → Counting W → Counting E → Counting E → ℕ → Type 0
+abbrev pub DoesUnless : {R W E : Type 0} → (missing : Option Fault) → Request → (R → Option (List ℕ)) → (W → Option (List ℕ))
+    → (E → Option (List ℕ)) → (Option Fault → Type 0) → Counting R → Counting R → Counting W → Counting W → Counting E → Counting E → ℕ → Type 0
 DoesUnless None q remaining contents said ended r s w v e f status = Does q remaining contents said ended r s w v e f status
 DoesUnless (Some x) q remaining contents said ended r s w v e f status = (s ≡ r) × (v ≡ w) × TellsNumber (fault_number x) said e f status
 

@@ -10,20 +10,20 @@ use Rattle.ilpstream_main.specs.Texts.{no_fault_text}
 
 -- a text was written whole, w the writer before and v now; or the first bytes of it, all of them or fewer, and a fault was
 -- reported to the writer for errors, e before and f now
-abbrev pub WritesText : {W E : Type 0} → List ℕ → (W → Option (List ℕ)) → (E → Option (List ℕ)) → (Option Fault → Type 0) → Counting W → Counting W → Counting E → Counting E
-    → ℕ → Type 0
+abbrev pub WritesText : {W E : Type 0} → List ℕ → (W → Option (List ℕ)) → (E → Option (List ℕ)) → (Option Fault → Type 0)
+    → Counting W → Counting W → Counting E → Counting E → ℕ → Type 0
 WritesText text contents said ended w v e f status =
     ((status ≡ 0) × Appends (contents (device_of w)) (contents (device_of v)) text × ended None × (f ≡ e))
     ⊎ ((x : Fault) × WritesPart text (contents (device_of w)) (contents (device_of v)) × ended (Some x) × TellsFault x said e f status)
 
 -- the text of a number was written, if it has one. Otherwise it was reported that it has none, and nothing was written to the
 -- output
-abbrev pub ExplainsBy : {W E : Type 0} → Option (List ℕ) → (W → Option (List ℕ)) → (E → Option (List ℕ)) → (Option Fault → Type 0) → Counting W → Counting W → Counting E
-    → Counting E → ℕ → Type 0
+abbrev pub ExplainsBy : {W E : Type 0} → Option (List ℕ) → (W → Option (List ℕ)) → (E → Option (List ℕ)) → (Option Fault → Type 0)
+    → Counting W → Counting W → Counting E → Counting E → ℕ → Type 0
 ExplainsBy None contents said ended w v e f status = (status ≡ 2) × (v ≡ w) × Says no_fault_text said e f
 ExplainsBy (Some text) contents said ended w v e f status = WritesText text contents said ended w v e f status
 
 -- the same of this number
-abbrev pub Explains : {W E : Type 0} → ℕ → (W → Option (List ℕ)) → (E → Option (List ℕ)) → (Option Fault → Type 0) → Counting W → Counting W → Counting E → Counting E → ℕ
-    → Type 0
+abbrev pub Explains : {W E : Type 0} → ℕ → (W → Option (List ℕ)) → (E → Option (List ℕ)) → (Option Fault → Type 0)
+    → Counting W → Counting W → Counting E → Counting E → ℕ → Type 0
 Explains n contents said ended w v e f status = ExplainsBy (explanation n) contents said ended w v e f status

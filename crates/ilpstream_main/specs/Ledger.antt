@@ -40,7 +40,8 @@ kind_of asked.Adjust = kinds.Adjusted
 
 -- the payment was booked, and the text is its account's line after that
 abbrev pub IsPrintedAlone : {S : Type 0} → Ghosts S → (name : List ℕ) → Side → (amount : ℕ) → (old new : Kept S) → (text : List ℕ) → Type 0
-IsPrintedAlone g name side amount old new text = ((moment : ℕ) × IsSettled g old name side amount moment new) × (text ≡ account_text name (amounts_of new.names new.amounts name))
+IsPrintedAlone g name side amount old new text =
+    ((moment : ℕ) × IsSettled g old name side amount moment new) × (text ≡ account_text name (amounts_of new.names new.amounts name))
 
 -- the line of an account whose entry was booked before, or that was entered now
 abbrev pub once_text : (repeated : Bool) → (name : List ℕ) → Amounts → List ℕ
@@ -50,11 +51,13 @@ once_text false = account_text
 -- it was booked under its reference, now or before, and the text says which
 abbrev pub IsPrintedOnce : {S : Type 0} → Ghosts S → (name : List ℕ) → Side → Entry → (reference : List ℕ) → (old new : Kept S) → (text : List ℕ) → Type 0
 IsPrintedOnce g name side entry reference old new text =
-    (repeated : Bool) × ((moment : ℕ) × IsOnce g repeated old name side entry moment reference new) × (text ≡ once_text repeated name (amounts_of new.names new.amounts name))
+    (repeated : Bool) × ((moment : ℕ) × IsOnce g repeated old name side entry moment reference new)
+    × (text ≡ once_text repeated name (amounts_of new.names new.amounts name))
 
 abbrev pub IsPrintedAs : {S : Type 0} → Ghosts S → Payment → (reference : Option (List ℕ)) → (old new : Kept S) → List ℕ → Type 0
 IsPrintedAs g p None old new text = IsPrintedAlone g p.name.now (side_of p.side) p.amount old new text
-IsPrintedAs g p (Some reference) old new text = IsPrintedOnce g p.name.now (side_of p.side) (record { kind = kind_of p.kind; amount = p.amount }) reference old new text
+IsPrintedAs g p (Some reference) old new text =
+    IsPrintedOnce g p.name.now (side_of p.side) (record { kind = kind_of p.kind; amount = p.amount }) reference old new text
 
 -- the text of books, old and new: all accounts and the starts of books that stay; or the line of the account of an entry
 abbrev pub IsPrinted : {S : Type 0} → Ghosts S → Option Payment → (old new : Kept S) → List ℕ → Type 0
@@ -63,7 +66,8 @@ IsPrinted g (Some p) old new text = IsPrintedAs g p (option_map (λ r. r.now) p.
 
 -- the text of books that were found was written
 abbrev pub PrintsFound : {S : Type 0} → Ghosts S → (finds : Kept S → Type 0) → Option Payment → (before now : Option (List ℕ)) → Type 0
-PrintsFound {S} g finds payment before now = (old : Kept S) × (new : Kept S) × (text : List ℕ) × finds old × IsPrinted g payment old new text × Appends before now text
+PrintsFound {S} g finds payment before now =
+    (old : Kept S) × (new : Kept S) × (text : List ℕ) × finds old × IsPrinted g payment old new text × Appends before now text
 
 -- why a text was not written, w the writer's tally before and v now
 abbrev pub FailsToWrite : Fault → (w v : Tally) → Type 0

@@ -45,7 +45,8 @@ pub record IsOver (asked : LocalSettings) (input before now : Option (List ℕ))
   pub is_past : is_past told.sent told.bound ≡ past
 
 -- how it ends: `untouched` says that nothing was read and written, and `unwritten` that nothing was written
-pub record EndsLocal (asked : LocalSettings) (input before now : Option (List ℕ)) (untouched unwritten : Type 0) (end : Result (Unit {0}) LocalError) : Type 0 where
+pub record EndsLocal (asked : LocalSettings) (input before now : Option (List ℕ)) (untouched unwritten : Type 0)
+    (end : Result (Unit {0}) LocalError) : Type 0 where
   pub unopened : end ≡ Err (ended.Run run.BadOption) → untouched
   pub done : end ≡ Ok tt → IsOver asked input before now false
   pub past : end ≡ Err ended.PastBound → IsOver asked input before now true

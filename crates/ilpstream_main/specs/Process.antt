@@ -16,10 +16,12 @@ use Rattle.ilpstream_main.specs.Words.{AsksFor, AsksFrames, AsksToShow, HasBadOp
 
 -- what the arguments ask for was done: r, w and e are the reader, the writer and the writer for errors at the start, s, v and f
 -- now
-pub record Obeys {R W E : Type 0} (streams : Streams) (words : List Text) (remaining : R → Option (List ℕ)) (contents : W → Option (List ℕ)) (said : E → Option (List ℕ))
-    (ended : Option Fault → Type 0) (r s : Counting R) (w v : Counting W) (e f : Counting E) (status : ℕ) : Type 0 where
+pub record Obeys {R W E : Type 0} (streams : Streams) (words : List Text) (remaining : R → Option (List ℕ))
+    (contents : W → Option (List ℕ)) (said : E → Option (List ℕ)) (ended : Option Fault → Type 0)
+    (r s : Counting R) (w v : Counting W) (e f : Counting E) (status : ℕ) : Type 0 where
   pub frames : AsksFrames words
-      → RunsFrames (remaining (device_of r)) (contents (device_of w)) (contents (device_of v)) ended said e f status ⊎ ((s ≡ r) × LacksMemory w v said e f status)
+      → RunsFrames (remaining (device_of r)) (contents (device_of w)) (contents (device_of v)) ended said e f status
+      ⊎ ((s ≡ r) × LacksMemory w v said e f status)
   pub asked : refusals words ≡ []
       → ((q : Request) × AsksFor words q × DoesUnless (missing q streams) q remaining contents said ended r s w v e f status)
       ⊎ (HasBadOption words × TellsBadOption r s w v said e f status)

@@ -25,7 +25,15 @@ abbrev pub progress_of : Side → Totals → (from : Mark) → (millis : ℕ) �
 progress_of (side.Sends length) t from millis waits last =
     record { bytes = t.accepted; length = length; gained = t.accepted - from.bytes; millis = millis - from.millis; units = t.paid; waits = waits; last = last }
 progress_of side.Receives t from millis waits last =
-    record { bytes = t.delivered; length = None; gained = t.delivered - from.bytes; millis = millis - from.millis; units = t.credited; waits = waits; last = last }
+    record {
+      bytes = t.delivered;
+      length = None;
+      gained = t.delivered - from.bytes;
+      millis = millis - from.millis;
+      units = t.credited;
+      waits = waits;
+      last = last;
+    }
 
 -- the time from `before` to `now` is the period or longer, in nanoseconds
 abbrev pub is_due : (now before period : ℕ) → Bool

@@ -22,7 +22,8 @@ use Rattle.ilpstream_main.specs.declared.error.RunError.TheVariants as run
 -- number of the start that the books count now
 abbrev pub IsRestored : {S : Type 0} → List ℕ → List AccountLine → List Route → (old new : Kept S) → Hop → Type 0
 IsRestored own xs rs old new hop =
-    hop ≡ restored (new_hop own (map (λ x. x.terms) xs) (map way_seen rs)) (claims_of old.names old.amounts (names_of xs)) (dues_of old.names old.amounts (names_of xs)) (first_of new.starts)
+    hop ≡ restored (new_hop own (map (λ x. x.terms) xs) (map way_seen rs))
+    (claims_of old.names old.amounts (names_of xs)) (dues_of old.names old.amounts (names_of xs)) (first_of new.starts)
 
 -- the books say what is owed at the hop, and each crash leaves these books
 pub record StandsFor {S : Type 0} (g : Ghosts S) (names : Names) (books : Kept S) (hop : Hop) : Type 0 where
@@ -35,6 +36,11 @@ pub record StandsFor {S : Type 0} (g : Ghosts S) (names : Names) (books : Kept S
 abbrev pub GoesOnFrom : (own : List ℕ) → (claims dues : List ℕ) → (next : ℕ) → Hop → Type 0
 GoesOnFrom own claims dues next hop =
     (h : Hop) → h.own ≡ own → length h.accounts ≡ length hop.accounts → h.claims ≡ claims → h.dues ≡ dues → h.next ≤ next → GoesOn h hop
+
+-- it does so from what books said of the accounts of a table, by their names
+abbrev pub GoesOnFromBooks : {S : Type 0} → (own : List ℕ) → List AccountLine → (old new : Kept S) → Hop → Type 0
+GoesOnFromBooks own xs old new hop =
+    GoesOnFrom own (claims_of old.names old.amounts (names_of xs)) (dues_of old.names old.amounts (names_of xs)) (first_of new.starts) hop
 
 -- which errors there are if no hop continues with the books
 abbrev pub WhyNotRestored : RunError → Type 0

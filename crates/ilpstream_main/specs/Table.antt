@@ -140,7 +140,8 @@ EndsByFile own ledger result = IsErrOf result run.BadOption ⊎ ((bytes : List �
 
 -- how a connector may end: by its file if it has one, and then its input is not touched; otherwise by its input. An option may be
 -- bad before
-abbrev pub EndsByTable : {T : Type 0} → (table : Option (Bor (List ℕ))) → List ℕ → (ledger : Option (Bor (List ℕ))) → Option (List ℕ) → (r s : Tally) → (untouched : Type 0) → Result T RunError → Type 0
+abbrev pub EndsByTable : {T : Type 0} → (table : Option (Bor (List ℕ))) → List ℕ → (ledger : Option (Bor (List ℕ))) → Option (List ℕ)
+    → (r s : Tally) → (untouched : Type 0) → Result T RunError → Type 0
 EndsByTable None own ledger input r s untouched result = EndsBy own ledger input r s result ⊎ (IsErrOf result run.BadOption × untouched)
 EndsByTable (Some file) own ledger input r s untouched result = untouched × EndsByFile own ledger result
 
@@ -154,3 +155,10 @@ FailsFirst result r s = ⊥
 pub record TellsBad {T : Type 0} (own : List ℕ) (input : Option (List ℕ)) (r s : Tally) (result : Result T RunError) : Type 0 where
   pub only : IsErrOf result run.BadTable → IfSome input (λ bytes. ¬ (HasTable own bytes))
   pub always : IfSome input (λ bytes. ¬ (HasTable own bytes) → IsErrOf result run.BadTable ⊎ FailsFirst result r s)
+
+-- so does a connector that reads its table from its input
+abbrev pub ABadTableIsToldExactly : Type 0
+ABadTableIsToldExactly =
+    (own : List ℕ) (ledger : Option (Bor (List ℕ))) (input : Option (List ℕ)) (r s : Tally) (result : Result (Unit {0}) RunError)
+    → EndsBy own ledger input r s result
+    → TellsBad own input r s result

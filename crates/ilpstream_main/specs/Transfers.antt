@@ -112,15 +112,18 @@ IsToldIn contents (Some f) (Some g) totals told = OnOk told (Appends (contents (
 -- a command ended, wrote its totals to its file, and then its end to its log
 abbrev pub EndsTold : {W : Type 0} → (W → Option (List ℕ)) → (old new : Option (Counting W)) → Totals → (ended result : Result (Unit {0}) RunError) → Type 0
 EndsTold contents old new totals ended result =
-    (told : Result (Unit {0}) Fault) × (logged : Result (Unit {0}) Fault) × IsToldIn contents old new totals told × (result ≡ ended_with (ended_with ended told) logged)
+    (told : Result (Unit {0}) Fault) × (logged : Result (Unit {0}) Fault)
+    × IsToldIn contents old new totals told × (result ≡ ended_with (ended_with ended told) logged)
 
 -- `send` with a secret and a file for its totals
-abbrev pub SendsBy : {W : Type 0} → (W → Option (List ℕ)) → SendSettings → (secret : List ℕ) → (old new : Option (Counting W)) → Result (Unit {0}) RunError → Type 0
+abbrev pub SendsBy : {W : Type 0} → (W → Option (List ℕ)) → SendSettings → (secret : List ℕ) → (old new : Option (Counting W))
+    → Result (Unit {0}) RunError → Type 0
 SendsBy contents s secret old new result =
     (now : Totals) × (ended : Result (Unit {0}) RunError) × TransfersOut s secret no_totals now ended × EndsTold contents old new now ended result
 
 -- `receive` with a secret and a file for its totals, before and after the bytes of its output
-abbrev pub ReceivesBy : {W : Type 0} → (W → Option (List ℕ)) → ReceiveSettings → (secret : List ℕ) → (before after : Option (List ℕ)) → (old new : Option (Counting W)) → Result (Unit {0}) RunError → Type 0
+abbrev pub ReceivesBy : {W : Type 0} → (W → Option (List ℕ)) → ReceiveSettings → (secret : List ℕ) → (before after : Option (List ℕ))
+    → (old new : Option (Counting W)) → Result (Unit {0}) RunError → Type 0
 ReceivesBy contents s secret before after old new result =
     (now : Totals) × (ended : Result (Unit {0}) RunError) × TransfersIn s secret before after no_totals now ended × EndsTold contents old new now ended result
 

@@ -52,7 +52,8 @@ fn owned(alloc: Global, text: &str) -> Result<String, RunError>
 /// The token in the first line of an input. Fails with `BadOption` if the line is not a valid token or the input cannot be
 /// read, and with a fault if memory is refused.
 fn token_from<R: Read>(alloc: Global, reader: &mut CountRead<R>) -> Result<String, RunError>
-    ensures line { ComesOfLine (λ line token. IsToken line (string_bytes token)) (R.remaining (device_of reader.old)) (tally_of reader.old) (tally_of reader.new) result }
+    ensures line { ComesOfLine (λ line token. IsToken line (string_bytes token))
+        (R.remaining (device_of reader.old)) (tally_of reader.old) (tally_of reader.new) result }
     ensures visible { IfOk result (λ token. texts.is_field_text (string_bytes token) ≡ true) }
 {
     let bytes = match read_whole(alloc, reader) {

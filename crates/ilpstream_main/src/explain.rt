@@ -20,7 +20,8 @@ fn write_text<W: Write, E: Write>(
     errors: &mut CountWrite<E>,
     text: &str,
 ) -> u8
-    ensures written { (r : Tally) → WritesText text.now W.contents E.contents (HasEnded r r (tally_of writer.old) (tally_of writer.new)) writer.old writer.new errors.old errors.new result }
+    ensures written { (r : Tally) → WritesText text.now W.contents E.contents
+        (HasEnded r r (tally_of writer.old) (tally_of writer.new)) writer.old writer.new errors.old errors.new result }
     ensures status { result ≤ 1 }
 {
     let mut turns = TURNS;
@@ -37,7 +38,8 @@ pub(crate) fn explain<W: Write, E: Write>(
     writer: &mut CountWrite<W>,
     errors: &mut CountWrite<E>,
 ) -> u8
-    ensures explained { (r : Tally) → Explains number W.contents E.contents (HasEnded r r (tally_of writer.old) (tally_of writer.new)) writer.old writer.new errors.old errors.new result }
+    ensures explained { (r : Tally) → Explains number W.contents E.contents
+        (HasEnded r r (tally_of writer.old) (tally_of writer.new)) writer.old writer.new errors.old errors.new result }
     ensures status { result ≤ 2 }
 {
     match explanation(number) {

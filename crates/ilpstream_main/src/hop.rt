@@ -6,9 +6,7 @@ ghost use Rattle.st_hop.specs.Table.{is_table, new_hop};
 ghost use Rattle.ilpstream_ledger.specs.Placed.{ArePlaces};
 ghost use Rattle.ilpstream_settings.specs.Table.{names_of};
 ghost use Rattle.ilpstream_main.specs.Table.{WhyNoHop, is_hop};
-ghost use Rattle.ilpstream_ledger.specs.Names.{claims_of, dues_of};
-ghost use Rattle.ilpstream_ledger.specs.Placing.{first_of};
-ghost use Rattle.ilpstream_main.specs.Restored.{GoesOnFrom, IsRestored, StandsFor, WhyNotRestored};
+ghost use Rattle.ilpstream_main.specs.Restored.{GoesOnFromBooks, IsRestored, StandsFor, WhyNotRestored};
 ghost use Rattle.ilpstream_main.specs.Ways.{these, way_in, way_of};
 ghost use Rattle.ilpstream_main.specs.declared.error.RunError.TheVariants.{BadTable, NoHop};
 
@@ -76,7 +74,7 @@ pub(crate) fn restored<S: Alter>(
     ensures hop { IfOk result (λ going. IsRestored own.now table.now.accounts.items table.now.routes.items books.old books.new going.hop) }
     ensures placed { IfOk result (λ going. ArePlaces books.new.names (names_of table.now.accounts.items) going.places.items) }
     ensures stands { IfOk result (λ going. StandsFor S.Store (names_of table.now.accounts.items) books.new going.hop) }
-    ensures goes_on { IfOk result (λ going. GoesOnFrom own.now (claims_of books.old.names books.old.amounts (names_of table.now.accounts.items)) (dues_of books.old.names books.old.amounts (names_of table.now.accounts.items)) (first_of books.new.starts) going.hop) }
+    ensures goes_on { IfOk result (λ going. GoesOnFromBooks own.now table.now.accounts.items books.old books.new going.hop) }
     ensures refused { IfErr result WhyNotRestored }
 {
     let names = table.names(alloc)?;

@@ -1,11 +1,8 @@
 //! Laws of the arguments that ask for `frames`, and of a connector's table.
 
-ghost use Rattle.std.specs.Prelude.{ℕ, List, Option, Result};
-ghost use Rattle.std.specs.Borrow.{Bor};
+ghost use Rattle.std.specs.Prelude.{List};
 ghost use Rattle.clap.specs.Words.{Text};
-ghost use Rattle.st_devices.specs.declared.tally.Tally.{Tally};
-ghost use Rattle.ilpstream_main.specs.declared.error.RunError.{RunError};
-ghost use Rattle.ilpstream_main.specs.Table.{EndsBy, TellsBad};
+ghost use Rattle.ilpstream_main.specs.Table.{ABadTableIsToldExactly};
 ghost use Rattle.ilpstream_main.specs.Words.{AsksFrames, NamesFrames, after_name};
 
 use ilpstream_settings::{a_bad_text_says_no_table, lines_say_one_table};
@@ -20,7 +17,7 @@ pub fn frames_needs_no_word()
 /// bad table (96): only if the input is not a table for a hop of its address. It always does so then, unless memory was
 /// refused or the input could not be read whole.
 pub fn a_bad_table_is_told_exactly()
-    ensures { (own : List ℕ) (ledger : Option (Bor (List ℕ))) (input : Option (List ℕ)) (r s : Tally) (result : Result (Unit {0}) RunError) → EndsBy own ledger input r s result → TellsBad own input r s result }
+    ensures { ABadTableIsToldExactly }
 {
     a_bad_text_says_no_table();
     lines_say_one_table();

@@ -165,7 +165,8 @@ pub(crate) fn ledger<W: Write, C: std::time::Clock, O: OpensBooks>(
     settings: &LedgerSettings<'_>,
     writer: &mut CountWrite<W>,
 ) -> Result<(), RunError>
-    ensures found { OnOk result (PrintsFound O.Store.Store (O.finds_existing opener.now settings.now.file.now) settings.now.payment (W.contents (device_of writer.old)) (W.contents (device_of writer.new))) }
+    ensures found { OnOk result (PrintsFound O.Store.Store (O.finds_existing opener.now settings.now.file.now)
+        settings.now.payment (W.contents (device_of writer.old)) (W.contents (device_of writer.new))) }
     ensures ends { EndsLedger W.contents settings.now.payment writer.old writer.new result }
 {
     let text = match opener.open_existing(settings.file) {

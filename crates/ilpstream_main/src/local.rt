@@ -5,9 +5,8 @@ ghost use Rattle.std.specs.Io.KnownBytes.{Appends};
 ghost use Rattle.st_devices.specs.Tallies.{device_of, tally_of};
 ghost use Rattle.ilpstream_frames.specs.declared.error.Fault.{Fault};
 ghost use Rattle.ilpstream_local.specs.Endings as ends;
-ghost use Rattle.ilpstream_main.specs.Endings.{TellsLocal};
+ghost use Rattle.ilpstream_main.specs.Endings.{EndsLocalOver, TellsLocal};
 ghost use Rattle.ilpstream_main.specs.Local as spec;
-ghost use Rattle.ilpstream_main.specs.Local.{EndsLocal};
 ghost use Rattle.ilpstream_main.specs.Settings.{IsChain};
 ghost use Rattle.ilpstream_main.specs.declared.error.LocalError.{LocalError};
 
@@ -81,7 +80,7 @@ fn told<R: Read, W: Write, N: Files<File = File>>(
     writer: &mut CountWrite<W>,
 ) -> Result<(), LocalError>
     requires { IsChain settings.now }
-    ensures { EndsLocal settings.now (R.remaining (device_of reader.old)) (W.contents (device_of writer.old)) (W.contents (device_of writer.new)) ((reader.new ≡ reader.old) × (writer.new ≡ writer.old)) (writer.new ≡ writer.old) result }
+    ensures { EndsLocalOver settings.now R.remaining W.contents reader.old reader.new writer.old writer.new result }
 {
     let mut sends = LocalSends::none();
     let mut turns = TURNS;
@@ -102,7 +101,7 @@ fn placed<'n, R: Read, W: Write, N: Files<File = File>>(
     obstacle: &mut Option<Obstacle<'n>>,
 ) -> Result<(), LocalError>
     requires { IsChain request.now.settings }
-    ensures { EndsLocal request.now.settings (R.remaining (device_of reader.old)) (W.contents (device_of writer.old)) (W.contents (device_of writer.new)) ((reader.new ≡ reader.old) × (writer.new ≡ writer.old)) (writer.new ≡ writer.old) result }
+    ensures { EndsLocalOver request.now.settings R.remaining W.contents reader.old reader.new writer.old writer.new result }
 {
     match place_for(rt, alloc, request.totals, obstacle) {
         Ok(telling) => told(alloc, telling, &request.settings, reader, writer),
@@ -147,8 +146,9 @@ pub(crate) fn local<R: Read, W: Write, E: Write, N: Files<File = File>>(
     ensures does { MatchOption request.now.totals
         (ends.RunsLocal request.now.settings (R.remaining (device_of reader.old)) (W.contents (device_of writer.old)) (W.contents (device_of writer.new))
         (ends.HasEnded (tally_of reader.old) (tally_of reader.new) (tally_of writer.old) (tally_of writer.new)) E.contents errors.old errors.new result)
-        (λ name. (end : Result (Unit {0}) LocalError) × EndsLocal request.now.settings (R.remaining (device_of reader.old)) (W.contents (device_of writer.old)) (W.contents (device_of writer.new))
-        ((reader.new ≡ reader.old) × (writer.new ≡ writer.old)) (writer.new ≡ writer.old) end × TellsLocal end E.contents errors.old errors.new result) }
+        (λ name. (end : Result (Unit {0}) LocalError)
+        × EndsLocalOver request.now.settings R.remaining W.contents reader.old reader.new writer.old writer.new end
+        × TellsLocal end E.contents errors.old errors.new result) }
     ensures status { result ≤ 1 }
 {
     if request.totals.is_none() {

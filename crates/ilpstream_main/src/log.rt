@@ -147,7 +147,8 @@ fn account_counts(
     counts: ilpstream_connector::AccountCounts,
 ) -> AccountCounts
     ensures owed { (result.claims ≡ totals.claims) × (result.dues ≡ totals.dues) × (result.held ≡ totals.held) }
-    ensures ends { (result.fulfilled ≡ counts.fulfilled) × (result.rejected ≡ counts.rejected) × (result.lost ≡ counts.lost) × (result.refused ≡ counts.refused) }
+    ensures ends { (result.fulfilled ≡ counts.fulfilled) × (result.rejected ≡ counts.rejected)
+        × (result.lost ≡ counts.lost) × (result.refused ≡ counts.refused) }
 {
     AccountCounts {
         claims: totals.claims,

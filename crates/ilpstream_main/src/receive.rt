@@ -109,7 +109,8 @@ fn transfer<
     requires settings { IsReceiver settings.now }
     requires control { IsSome settings.now.control → IsSome pipe }
     ensures bad { result ≢ Err BadOption }
-    ensures made { TransfersIn settings.now credentials.now.secret (W.contents (device_of writer.old)) (W.contents (device_of writer.new)) (totals_seen totals.old) (totals_seen totals.new) result }
+    ensures made { TransfersIn settings.now credentials.now.secret (W.contents (device_of writer.old)) (W.contents (device_of writer.new))
+        (totals_seen totals.old) (totals_seen totals.new) result }
 {
     let listener = listener_of(rt, alloc, settings, log, obstacle)?;
     let end = end_of(alloc, settings, credentials.secret)?;
@@ -212,7 +213,8 @@ fn receive_begun<
     requires asked { IsSome settings.now.totals → IsSome begun.old.totals }
     requires control { IsSome settings.now.control → IsSome pipe }
     ensures bad { result ≢ Err BadOption }
-    ensures receives { ReceivesBy T.contents settings.now begun.old.credentials.secret (W.contents (device_of writer.old)) (W.contents (device_of writer.new)) begun.old.totals begun.new.totals result }
+    ensures receives { ReceivesBy T.contents settings.now begun.old.credentials.secret
+        (W.contents (device_of writer.old)) (W.contents (device_of writer.new)) begun.old.totals begun.new.totals result }
 {
     let mut totals = nothing_yet();
     let ended = transfer(

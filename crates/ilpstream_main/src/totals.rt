@@ -171,7 +171,8 @@ fn owed_text(alloc: Global, report: Report<'_>) -> Result<String, AllocError>
 
 /// The lines that report the totals of a connector.
 fn connector_text(alloc: Global, report: Report<'_>) -> Result<Vec<u8>, AllocError>
-    ensures { IfOk result (λ text. text.items ≡ spec.connector_text report.entry.accounts.now report.entry.overloaded report.entry.counts.now.accounts.items report.entry.counts.now.codes.items) }
+    ensures { IfOk result (λ text. text.items ≡ spec.connector_text
+        report.entry.accounts.now report.entry.overloaded report.entry.counts.now.accounts.items report.entry.counts.now.codes.items) }
 {
     let owed = owed_text(alloc, report)?;
     let counts = counts_text(alloc, report.counts)?;
@@ -199,7 +200,8 @@ fn put_accounts<W: Write>(
     file: &mut CountWrite<W>,
     report: Report<'_>,
 ) -> Result<(), Fault>
-    ensures { OnOk result (Appends (W.contents (device_of file.old)) (W.contents (device_of file.new)) (spec.connector_text report.entry.accounts.now report.entry.overloaded report.entry.counts.now.accounts.items report.entry.counts.now.codes.items)) }
+    ensures { OnOk result (Appends (W.contents (device_of file.old)) (W.contents (device_of file.new))
+        (spec.connector_text report.entry.accounts.now report.entry.overloaded report.entry.counts.now.accounts.items report.entry.counts.now.codes.items)) }
 {
     let text = connector_text(alloc, report)?;
     let mut turns = TURNS;
@@ -212,7 +214,8 @@ fn replace_accounts<W: Write + Drop, P: Place<W>>(
     place: &mut P,
     report: Report<'_>,
 ) -> Result<(), Fault>
-    ensures whole { OnOk result (spec.Replaced (P.held place.old) (P.held place.new) (spec.connector_text report.entry.accounts.now report.entry.overloaded report.entry.counts.now.accounts.items report.entry.counts.now.codes.items)) }
+    ensures whole { OnOk result (spec.Replaced (P.held place.old) (P.held place.new)
+        (spec.connector_text report.entry.accounts.now report.entry.overloaded report.entry.counts.now.accounts.items report.entry.counts.now.codes.items)) }
     ensures kept { OnErr result (P.held place.new ≡ P.held place.old) }
 {
     let text = connector_text(alloc, report)?;
