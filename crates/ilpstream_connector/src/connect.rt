@@ -96,7 +96,7 @@ fn ended<C: Ledger, D: Ledger, L>(
 ) -> ConnectorEnded
     ensures accounts { vec_len result.accounts ≡ vec_len accounts }
     ensures faults { IfErr result.result IsOfConnector }
-    ensures workers { result.workers ≡ common.crew.workers }
+    ensures workers { result.workers ≡ common.entry.crew.workers }
 {
     let mut accounts = accounts;
     let Common {
