@@ -1,8 +1,7 @@
 //! The command `connector`.
 
 ghost use Rattle.std.specs.Prelude.{◌≡◌, IfSome, IsNone, IsSome};
-ghost use Rattle.st_devices.specs.Tallies.{device_of, tally_of};
-ghost use Rattle.ilpstream_main.specs.Table.{EndsByTable};
+ghost use Rattle.ilpstream_main.specs.Endings.{EndsConnector};
 
 use crate::carried::Carried;
 use crate::control::{Control, pipe_of};
@@ -105,7 +104,7 @@ fn serve_reporting<
     log: Log<'_>,
     obstacle: &mut Option<Obstacle<'a>>,
 ) -> Result<(), RunError>
-    ensures { EndsByTable settings.now.table settings.now.own.now settings.now.ledger (R.remaining (device_of reader.old)) (tally_of reader.old) (tally_of reader.new) (reader.new ≡ reader.old) result }
+    ensures { EndsConnector settings.now R.remaining reader.old reader.new result }
 {
     let pipe = match pipe_of(rt, settings.control, obstacle) {
         Ok(pipe) => pipe,
@@ -150,7 +149,7 @@ pub(crate) fn connector<
     reader: &mut CountRead<R>,
     obstacle: &mut Option<Obstacle<'a>>,
 ) -> Result<(), RunError>
-    ensures { EndsByTable settings.now.table settings.now.own.now settings.now.ledger (R.remaining (device_of reader.old)) (tally_of reader.old) (tally_of reader.new) (reader.new ≡ reader.old) result }
+    ensures { EndsConnector settings.now R.remaining reader.old reader.new result }
 {
     let journal = match journal(rt, alloc, settings.log, obstacle) {
         Ok(journal) => journal,

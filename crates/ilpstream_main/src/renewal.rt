@@ -2,8 +2,9 @@
 
 ghost use Rattle.std.specs.Prelude.{◌≡◌};
 ghost use Rattle.st_devices.specs.Tallies.{device_of, tally_of};
+ghost use Rattle.ilpstream_main.specs.Endings.{EndsConnector};
 ghost use Rattle.ilpstream_main.specs.Table as spec;
-ghost use Rattle.ilpstream_main.specs.Table.{EndsBy, EndsByFile, EndsByTable, GoesOn, Lives};
+ghost use Rattle.ilpstream_main.specs.Table.{EndsBy, EndsByFile, GoesOn, Lives};
 
 use crate::error::RunError;
 use crate::input::read_whole;
@@ -221,7 +222,7 @@ pub(crate) fn serve_table<
     reader: &mut CountRead<R>,
     reports: &mut Reports<'_, 'a, M>,
 ) -> Result<(), RunError>
-    ensures { EndsByTable settings.now.table settings.now.own.now settings.now.ledger (R.remaining (device_of reader.old)) (tally_of reader.old) (tally_of reader.new) (reader.new ≡ reader.old) result }
+    ensures { EndsConnector settings.now R.remaining reader.old reader.new result }
 {
     match settings.table {
         Some(name) => serve_file(rt, opener, alloc, settings, name, reports),
