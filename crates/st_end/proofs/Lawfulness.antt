@@ -11,7 +11,7 @@ use Rattle.st_ilp.specs.Packets.{AnswerPacket, Fulfilled, Rejected}
 use Rattle.st_ilp.specs.Spelling.{fulfill_kind, reject_kind}
 use Rattle.st_ilp.specs.Reading.{answer_at}
 use Rattle.st_ilp.specs.declared.error.IlpError.{IlpError}
-use Rattle.st_frames.specs.Frames.{Known, Packet, frames_of, ConnectionClose, ConnectionNewAddress, ConnectionMaxData, ConnectionDataBlocked, StreamClose, StreamMoney, StreamMaxMoney, StreamMoneyBlocked, StreamData, StreamMaxData, StreamDataBlocked}
+use Rattle.st_frames.specs.Frames.{Known, Packet, frames_of, CloseFrame, ConnectionClose, OtherFrame, LimitFrame, ConnectionMaxData, BlockedFrame, ConnectionDataBlocked, StreamClose, StreamMoney, StreamMaxMoney, StreamMoneyBlocked, StreamData, StreamMaxData, StreamDataBlocked}
 use Rattle.st_keys.specs.Keys.{DerivedKeys}
 use Rattle.st_keys.specs.Sealed.{opened}
 use Rattle.st_keys.specs.declared.error.KeyError.{KeyError}
@@ -73,15 +73,13 @@ acked_stays : (s t : Sending) (f : SentFrame) → Stays t s → Stays t (after_a
 acked_stays s t (Data k o n) h = with_same s k _ t h
 acked_stays s t (Whole (StreamData k o xs)) h = h
 acked_stays s t (Whole (StreamMoney k n)) h = with_same s k _ t h
-acked_stays s t (Whole (StreamClose k code message)) h = with_same s k _ t h
-acked_stays s t (Whole (StreamDataBlocked k n)) h = with_same s k _ t h
-acked_stays s t (Whole (StreamMoneyBlocked k n m)) h = with_same s k _ t h
-acked_stays s t (Whole (ConnectionDataBlocked n)) h = h
-acked_stays s t (Whole (ConnectionMaxData n)) h = h
-acked_stays s t (Whole (StreamMaxData k n)) h = h
-acked_stays s t (Whole (StreamMaxMoney k n m)) h = h
-acked_stays s t (Whole (ConnectionClose code message)) h = h
-acked_stays s t (Whole (ConnectionNewAddress address)) h = h
+acked_stays s t (Whole (CloseFrame (StreamClose k code message))) h = with_same s k _ t h
+acked_stays s t (Whole (BlockedFrame (StreamDataBlocked k n))) h = with_same s k _ t h
+acked_stays s t (Whole (BlockedFrame (StreamMoneyBlocked k n m))) h = with_same s k _ t h
+acked_stays s t (Whole (BlockedFrame (ConnectionDataBlocked n))) h = h
+acked_stays s t (Whole (LimitFrame l)) h = h
+acked_stays s t (Whole (CloseFrame (ConnectionClose code message))) h = h
+acked_stays s t (Whole (OtherFrame o)) h = h
 
 all_acked_stays : (t : Sending) (fs : List SentFrame) (s : Sending) → Stays t s → Stays t (after_all_acked s fs)
 all_acked_stays t [] s h = h
@@ -90,15 +88,12 @@ all_acked_stays t (f ∷ fs) s h = all_acked_stays t fs (after_acked s f) (acked
 told_stays : (s t : Sending) (f : Known) → Stays t s → Stays t (after_told s f)
 told_stays s t (StreamData k o xs) h = h
 told_stays s t (StreamMoney k n) h = h
-told_stays s t (StreamClose k code message) h = h
-told_stays s t (StreamDataBlocked k n) h = h
-told_stays s t (StreamMoneyBlocked k n m) h = h
-told_stays s t (ConnectionDataBlocked n) h = h
-told_stays s t (ConnectionMaxData n) h = h
-told_stays s t (StreamMaxData k n) h = with_same s k _ t h
-told_stays s t (StreamMaxMoney k n m) h = with_same s k _ t h
-told_stays s t (ConnectionClose code message) h = h
-told_stays s t (ConnectionNewAddress address) h = h
+told_stays s t (CloseFrame c) h = h
+told_stays s t (BlockedFrame b) h = h
+told_stays s t (LimitFrame (ConnectionMaxData n)) h = h
+told_stays s t (LimitFrame (StreamMaxData k n)) h = with_same s k _ t h
+told_stays s t (LimitFrame (StreamMaxMoney k n m)) h = with_same s k _ t h
+told_stays s t (OtherFrame o) h = h
 
 pub all_told_stays : (t : Sending) (fs : List Known) (s : Sending) → Stays t s → Stays t (after_all_told s fs)
 all_told_stays t [] s h = h

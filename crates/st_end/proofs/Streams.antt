@@ -7,7 +7,7 @@ use Rattle.std.proofs.lemmas.Bool.Decides.{nat_tests}
 use Rattle.std.proofs.lemmas.List.{length-map, length-set}
 use Rattle.st_streams.specs.Slots.{Slots, slot, with_slot}
 use Rattle.st_streams.proofs.SlotLemmas.{set_here, set_there}
-use Rattle.st_frames.specs.Frames.{Known, Packet, frames_of, ConnectionClose, ConnectionNewAddress, ConnectionMaxData, ConnectionDataBlocked, StreamClose, StreamMoney, StreamMaxMoney, StreamMoneyBlocked, StreamData, StreamMaxData, StreamDataBlocked}
+use Rattle.st_frames.specs.Frames.{Known, Packet, frames_of, CloseFrame, ConnectionClose, OtherFrame, LimitFrame, BlockedFrame, StreamClose, StreamMoney, StreamData}
 use Rattle.st_frames.specs.Told.{shares}
 use Rattle.st_sender.specs.Sending.{Outgoing, Sending, new_outgoing, outgoing_at, with_outgoing, changed_at, changed}
 use Rattle.st_receiver.specs.Streams.{Incoming, Receiving, incoming_at, with_incoming, opened_stream, is_open, may_name, with_max, with_kept, with_receive_max}
@@ -145,7 +145,7 @@ named_within r k e = first_true (within k) _ e
 
 -- the streams that closes name
 abbrev ClosesOne : Known → Type 0
-ClosesOne (StreamClose k code message) = within k ≡ true
+ClosesOne (CloseFrame (StreamClose k code message)) = within k ≡ true
 ClosesOne f = Unit {0}
 
 abbrev ClosesAll : List Known → Type 0
@@ -162,15 +162,11 @@ itself r = widens_same (receives r) (receives r) refl
 frame_opens : (r : Receiving) (f : Known) → frame_fault r f ≡ None → Opens r f
 frame_opens r (StreamData k o xs) e = (tt, widens_with r k (with_data o xs (incoming_at r k)) (named_within r k (may_of (may_name r k) _ e)))
 frame_opens r (StreamMoney k n) e = (tt, widens_with r k (incoming_at r k) (named_within r k (may_alone (may_name r k) e)))
-frame_opens r (StreamClose k code message) e = let w = named_within r k (may_alone (may_name r k) e) in (w, widens_with r k (incoming_at r k) w)
-frame_opens r (ConnectionClose code message) e = (tt, itself r)
-frame_opens r (ConnectionNewAddress address) e = (tt, itself r)
-frame_opens r (ConnectionMaxData n) e = (tt, itself r)
-frame_opens r (ConnectionDataBlocked n) e = (tt, itself r)
-frame_opens r (StreamMaxMoney k m t) e = (tt, itself r)
-frame_opens r (StreamMoneyBlocked k m t) e = (tt, itself r)
-frame_opens r (StreamMaxData k n) e = (tt, itself r)
-frame_opens r (StreamDataBlocked k n) e = (tt, itself r)
+frame_opens r (CloseFrame (StreamClose k code message)) e = let w = named_within r k (may_alone (may_name r k) e) in (w, widens_with r k (incoming_at r k) w)
+frame_opens r (CloseFrame (ConnectionClose code message)) e = (tt, itself r)
+frame_opens r (OtherFrame o) e = (tt, itself r)
+frame_opens r (LimitFrame l) e = (tt, itself r)
+frame_opens r (BlockedFrame b) e = (tt, itself r)
 
 frames_open : (fs : List Known) (r : Receiving) → frames_fault r fs ≡ None → ClosesAll fs × Widens (receives r) (receives (after_frames r fs))
 unfolding after_frames
@@ -182,17 +178,13 @@ frames_open (f ∷ fs) r e =
     ((x.0, y.0), widens_then (receives r) (receives (after_frame r f)) (receives (after_frames (after_frame r f) fs)) x.1 y.1)
 
 close_opens : (r : Receiving) (f : Known) → ClosesOne f → Widens (receives r) (receives (after_close r f))
-close_opens r (StreamClose k code message) w = widens_with r k (with_close code (incoming_at r k)) w
+close_opens r (CloseFrame (StreamClose k code message)) w = widens_with r k (with_close code (incoming_at r k)) w
 close_opens r (StreamData k o xs) w = itself r
 close_opens r (StreamMoney k n) w = itself r
-close_opens r (ConnectionClose code message) w = itself r
-close_opens r (ConnectionNewAddress address) w = itself r
-close_opens r (ConnectionMaxData n) w = itself r
-close_opens r (ConnectionDataBlocked n) w = itself r
-close_opens r (StreamMaxMoney k m t) w = itself r
-close_opens r (StreamMoneyBlocked k m t) w = itself r
-close_opens r (StreamMaxData k n) w = itself r
-close_opens r (StreamDataBlocked k n) w = itself r
+close_opens r (CloseFrame (ConnectionClose code message)) w = itself r
+close_opens r (OtherFrame o) w = itself r
+close_opens r (LimitFrame l) w = itself r
+close_opens r (BlockedFrame b) w = itself r
 
 closes_open : (fs : List Known) (r : Receiving) → ClosesAll fs → Widens (receives r) (receives (after_closes r fs))
 unfolding after_closes
@@ -206,17 +198,13 @@ aborted_ones code (None ∷ xs) = ap (λ bs. false ∷ bs) (aborted_ones code xs
 aborted_ones code (Some x ∷ xs) = ap (λ bs. true ∷ bs) (aborted_ones code xs)
 
 connection_receives : (r : Receiving) (f : Known) → receives (after_connection_close r f) ≡ receives r
-connection_receives r (ConnectionClose code message) = aborted_ones code r.streams
-connection_receives r (StreamClose k code message) = refl
+connection_receives r (CloseFrame (ConnectionClose code message)) = aborted_ones code r.streams
+connection_receives r (CloseFrame (StreamClose k code message)) = refl
 connection_receives r (StreamData k o xs) = refl
 connection_receives r (StreamMoney k n) = refl
-connection_receives r (ConnectionNewAddress address) = refl
-connection_receives r (ConnectionMaxData n) = refl
-connection_receives r (ConnectionDataBlocked n) = refl
-connection_receives r (StreamMaxMoney k m t) = refl
-connection_receives r (StreamMoneyBlocked k m t) = refl
-connection_receives r (StreamMaxData k n) = refl
-connection_receives r (StreamDataBlocked k n) = refl
+connection_receives r (OtherFrame o) = refl
+connection_receives r (LimitFrame l) = refl
+connection_receives r (BlockedFrame b) = refl
 
 connections_receive : (fs : List Known) (r : Receiving) → receives (after_connection_closes r fs) ≡ receives r
 unfolding after_connection_closes

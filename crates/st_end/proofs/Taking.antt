@@ -9,7 +9,7 @@ use Rattle.st_receiver.specs.Reasons.{f99}
 use Rattle.st_ilp.specs.Reading.{prepare_at}
 use Rattle.st_ilp.specs.Errors as ilp
 use Rattle.st_ilp.specs.declared.error.IlpError.{IlpError}
-use Rattle.st_frames.specs.Frames.{Known, Packet, frames_of, ConnectionClose, ConnectionNewAddress, ConnectionMaxData, ConnectionDataBlocked, StreamClose, StreamMoney, StreamMaxMoney, StreamMoneyBlocked, StreamData, StreamMaxData, StreamDataBlocked}
+use Rattle.st_frames.specs.Frames.{Known, Packet, frames_of, CloseFrame, OtherFrame, ConnectionNewAddress, LimitFrame, BlockedFrame, StreamMoney, StreamData}
 use Rattle.st_keys.specs.Keys.{DerivedKeys}
 use Rattle.st_keys.specs.Sealed.{unsealed, opened, packet_in}
 use Rattle.st_keys.specs.declared.error.KeyError.{KeyError}
@@ -48,15 +48,10 @@ opened_long keys kind payload p lengths e = long_if kind payload p (unsealed key
 marked_stays : (s : Sending) (g : Known) → Stays s (after_marked s g)
 marked_stays s (StreamData k o xs) = itself s
 marked_stays s (StreamMoney k n) = itself s
-marked_stays s (StreamClose k code message) = itself s
-marked_stays s (StreamDataBlocked k n) = itself s
-marked_stays s (StreamMoneyBlocked k n m) = itself s
-marked_stays s (ConnectionDataBlocked n) = itself s
-marked_stays s (ConnectionMaxData n) = itself s
-marked_stays s (StreamMaxData k n) = itself s
-marked_stays s (StreamMaxMoney k n m) = itself s
-marked_stays s (ConnectionClose code message) = itself s
-marked_stays s (ConnectionNewAddress address) = itself s
+marked_stays s (CloseFrame c) = itself s
+marked_stays s (BlockedFrame b) = itself s
+marked_stays s (LimitFrame l) = itself s
+marked_stays s (OtherFrame o) = itself s
 
 marked_if_stays : (s : Sending) (b : Bool) (g : Known) → Stays s (marked_if s b g)
 marked_if_stays s true g = marked_stays s g
@@ -97,17 +92,12 @@ pick_address false address peer a p = p
 
 peer_lawful : (fs : List Known) (peer : List ℕ) → is_address peer ≡ true → is_address (new_peer peer fs) ≡ true
 peer_lawful [] peer h = h
-peer_lawful (ConnectionNewAddress address ∷ fs) peer h = peer_lawful fs _ (pick_address (is_address address) address peer refl h)
+peer_lawful ((OtherFrame (ConnectionNewAddress address)) ∷ fs) peer h = peer_lawful fs _ (pick_address (is_address address) address peer refl h)
 peer_lawful (StreamData k o xs ∷ fs) peer h = peer_lawful fs peer h
 peer_lawful (StreamMoney k n ∷ fs) peer h = peer_lawful fs peer h
-peer_lawful (StreamClose k code message ∷ fs) peer h = peer_lawful fs peer h
-peer_lawful (StreamDataBlocked k n ∷ fs) peer h = peer_lawful fs peer h
-peer_lawful (StreamMoneyBlocked k n m ∷ fs) peer h = peer_lawful fs peer h
-peer_lawful (ConnectionDataBlocked n ∷ fs) peer h = peer_lawful fs peer h
-peer_lawful (ConnectionMaxData n ∷ fs) peer h = peer_lawful fs peer h
-peer_lawful (StreamMaxData k n ∷ fs) peer h = peer_lawful fs peer h
-peer_lawful (StreamMaxMoney k n m ∷ fs) peer h = peer_lawful fs peer h
-peer_lawful (ConnectionClose code message ∷ fs) peer h = peer_lawful fs peer h
+peer_lawful ((CloseFrame c) ∷ fs) peer h = peer_lawful fs peer h
+peer_lawful ((BlockedFrame b) ∷ fs) peer h = peer_lawful fs peer h
+peer_lawful ((LimitFrame l) ∷ fs) peer h = peer_lawful fs peer h
 
 pub fulfilled_lawful : (e : EndState) (p : Packet) (amount : ℕ) → fault_of e.receiving p amount ≡ None → IsLawful e → IsLawful (fulfilled e p (effect e.receiving p amount))
 fulfilled_lawful e p amount none l =

@@ -10,7 +10,7 @@ use Rattle.st_ilp.specs.Spelling.{prepare_kind, fulfill_kind, reject_kind, answe
 use Rattle.st_ilp.specs.Reading.{prepare_at}
 use Rattle.st_ilp.specs.Errors as ilp
 use Rattle.st_ilp.specs.declared.error.IlpError.{IlpError}
-use Rattle.st_frames.specs.Frames.{Known, Packet, frames_of, ConnectionNewAddress, ConnectionMaxData, ConnectionDataBlocked, StreamMaxMoney, StreamMoneyBlocked, StreamMaxData, StreamDataBlocked}
+use Rattle.st_frames.specs.Frames.{Known, Packet, frames_of, OtherFrame, ConnectionNewAddress, LimitFrame, ConnectionMaxData, BlockedFrame, ConnectionDataBlocked, StreamMaxMoney, StreamMoneyBlocked, StreamMaxData, StreamDataBlocked}
 use Rattle.st_keys.specs.Keys.{DerivedKeys, fulfillment, condition}
 use Rattle.st_keys.specs.Sealed.{opened, sealed_packet, iv_of}
 use Rattle.st_keys.specs.Errors as payloads
@@ -89,9 +89,9 @@ opened_too r s = fold (opened_at r) s (range_with_len 1 64)
 
 -- a frame reports the limit at which another says Blocked
 abbrev pub tells_blocked : (blocked : Known) → Known → Bool
-tells_blocked (ConnectionDataBlocked m) (ConnectionMaxData n) = true
-tells_blocked (StreamDataBlocked k m) (StreamMaxData l n) = nat_eq k l
-tells_blocked (StreamMoneyBlocked k m t) (StreamMaxMoney l n u) = nat_eq k l
+tells_blocked (BlockedFrame (ConnectionDataBlocked m)) (LimitFrame (ConnectionMaxData n)) = true
+tells_blocked (BlockedFrame (StreamDataBlocked k m)) (LimitFrame (StreamMaxData l n)) = nat_eq k l
+tells_blocked (BlockedFrame (StreamMoneyBlocked k m t)) (LimitFrame (StreamMaxMoney l n u)) = nat_eq k l
 tells_blocked f g = false
 
 abbrev pub marked_if : Sending → Bool → Known → Sending
@@ -109,7 +109,7 @@ all_marked reply s (f ∷ fs) = all_marked reply (marked reply s f) fs
 -- the last new address that is one: an empty one changes nothing
 abbrev pub new_peer : List ℕ → List Known → List ℕ
 new_peer peer [] = peer
-new_peer peer (ConnectionNewAddress address ∷ fs) = new_peer (if is_address address then address else peer) fs
+new_peer peer ((OtherFrame (ConnectionNewAddress address)) ∷ fs) = new_peer (if is_address address then address else peer) fs
 new_peer peer (f ∷ fs) = new_peer peer fs
 
 -- limits take effect in every packet that opens

@@ -7,7 +7,7 @@ use Rattle.st_oer.specs.Spelling.{length_bytes, octets, var_uint}
 use Rattle.st_oer.specs.Limit.{is_small}
 use Rattle.st_frames.specs.declared.error.FrameError.{FrameError}
 use Rattle.st_frames.specs.declared.error.FrameError.TheVariants.{TooLong}
-use Rattle.st_frames.specs.Frames.{Known, frame_of, ConnectionClose, ConnectionNewAddress, ConnectionMaxData, ConnectionDataBlocked, StreamClose, StreamMoney, StreamMaxMoney, StreamMoneyBlocked, StreamData, StreamMaxData, StreamDataBlocked}
+use Rattle.st_frames.specs.Frames.{Known, frame_of, CloseFrame, ConnectionClose, StreamClose, OtherFrame, ConnectionNewAddress, LimitFrame, ConnectionMaxData, StreamMaxData, StreamMaxMoney, BlockedFrame, ConnectionDataBlocked, StreamDataBlocked, StreamMoneyBlocked, StreamMoney, StreamData}
 use Rattle.st_frames.specs.Table.{Field, Byte, Number, Limit, Octets, Text, Address, Item, Code, Num, Bytes, Row, row_of, layout}
 use Rattle.st_frames.specs.Reading.{Raw, packet_at}
 use Rattle.st_frames.specs.Relation.{IsField, is_byte, is_number, is_limit, is_octets, is_text, is_address, IsFields, no_field, next_field, AreFrames, no_frame, next_frame, AreKnown, no_more, known}
@@ -26,17 +26,17 @@ record Agrees (k : Known) : Type 0 where
 
 agrees : (k : Known) → Agrees k
 unfolding row_of
-agrees (ConnectionClose code message) = record { row = _; row_is = refl; made = refl; small = omega arith }
-agrees (ConnectionNewAddress address) = record { row = _; row_is = refl; made = refl; small = omega arith }
-agrees (ConnectionMaxData max_offset) = record { row = _; row_is = refl; made = refl; small = omega arith }
-agrees (ConnectionDataBlocked max_offset) = record { row = _; row_is = refl; made = refl; small = omega arith }
-agrees (StreamClose stream code message) = record { row = _; row_is = refl; made = refl; small = omega arith }
+agrees (CloseFrame (ConnectionClose code message)) = record { row = _; row_is = refl; made = refl; small = omega arith }
+agrees (CloseFrame (StreamClose stream code message)) = record { row = _; row_is = refl; made = refl; small = omega arith }
+agrees (OtherFrame (ConnectionNewAddress address)) = record { row = _; row_is = refl; made = refl; small = omega arith }
+agrees (LimitFrame (ConnectionMaxData max_offset)) = record { row = _; row_is = refl; made = refl; small = omega arith }
+agrees (LimitFrame (StreamMaxData stream max_offset)) = record { row = _; row_is = refl; made = refl; small = omega arith }
+agrees (LimitFrame (StreamMaxMoney stream receive_max total_received)) = record { row = _; row_is = refl; made = refl; small = omega arith }
+agrees (BlockedFrame (ConnectionDataBlocked max_offset)) = record { row = _; row_is = refl; made = refl; small = omega arith }
+agrees (BlockedFrame (StreamDataBlocked stream max_offset)) = record { row = _; row_is = refl; made = refl; small = omega arith }
+agrees (BlockedFrame (StreamMoneyBlocked stream send_max total_sent)) = record { row = _; row_is = refl; made = refl; small = omega arith }
 agrees (StreamMoney stream shares) = record { row = _; row_is = refl; made = refl; small = omega arith }
-agrees (StreamMaxMoney stream receive_max total_received) = record { row = _; row_is = refl; made = refl; small = omega arith }
-agrees (StreamMoneyBlocked stream send_max total_sent) = record { row = _; row_is = refl; made = refl; small = omega arith }
 agrees (StreamData stream offset bytes) = record { row = _; row_is = refl; made = refl; small = omega arith }
-agrees (StreamMaxData stream max_offset) = record { row = _; row_is = refl; made = refl; small = omega arith }
-agrees (StreamDataBlocked stream max_offset) = record { row = _; row_is = refl; made = refl; small = omega arith }
 
 octets_below : (bytes : List ℕ) → length bytes ≤ length (octets bytes)
 octets_below bytes = omega (arith, length-append (length_bytes (length bytes)) bytes)

@@ -5,20 +5,36 @@ use Rattle.std.specs.Prelude.{ℕ, List, map}
 abbrev pub max_packet : ℕ
 max_packet = 32739
 
--- a frame of one of the eleven types that this profile reads, with its fields; 05, 06, 07 and 17 of RFC 0029 are skipped
--- as unknown ones
+-- a limit that the sender of the frame raises
+pub data KnownLimit : Type 0 where
+  ConnectionMaxData : (max_offset : ℕ) → KnownLimit
+  StreamMaxData : (stream max_offset : ℕ) → KnownLimit
+  StreamMaxMoney : (stream receive_max total_received : ℕ) → KnownLimit
+
+-- a limit of the peer's at which the sender of the frame waits
+pub data KnownBlocked : Type 0 where
+  ConnectionDataBlocked : (max_offset : ℕ) → KnownBlocked
+  StreamDataBlocked : (stream max_offset : ℕ) → KnownBlocked
+  StreamMoneyBlocked : (stream send_max total_sent : ℕ) → KnownBlocked
+
+-- the end of a stream, or of the connection
+pub data KnownClose : Type 0 where
+  ConnectionClose : (code : ℕ) (message : List ℕ) → KnownClose
+  StreamClose : (stream code : ℕ) (message : List ℕ) → KnownClose
+
+-- what is for none of these
+pub data KnownOther : Type 0 where
+  ConnectionNewAddress : (address : List ℕ) → KnownOther
+
+-- a frame of one of the eleven types that this profile reads, by what it is for, with its fields; 05, 06, 07 and 17 of
+-- RFC 0029 are skipped as unknown ones
 pub data Known : Type 0 where
-  ConnectionClose : (code : ℕ) (message : List ℕ) → Known
-  ConnectionNewAddress : (address : List ℕ) → Known
-  ConnectionMaxData : (max_offset : ℕ) → Known
-  ConnectionDataBlocked : (max_offset : ℕ) → Known
-  StreamClose : (stream code : ℕ) (message : List ℕ) → Known
-  StreamMoney : (stream shares : ℕ) → Known
-  StreamMaxMoney : (stream receive_max total_received : ℕ) → Known
-  StreamMoneyBlocked : (stream send_max total_sent : ℕ) → Known
   StreamData : (stream offset : ℕ) (bytes : List ℕ) → Known
-  StreamMaxData : (stream max_offset : ℕ) → Known
-  StreamDataBlocked : (stream max_offset : ℕ) → Known
+  StreamMoney : (stream shares : ℕ) → Known
+  LimitFrame : (limit : KnownLimit) → Known
+  BlockedFrame : (blocked : KnownBlocked) → Known
+  CloseFrame : (close : KnownClose) → Known
+  OtherFrame : (other : KnownOther) → Known
 
 -- a packet: its known frames, each with its index over all frames
 pub record Packet : Type 0 where

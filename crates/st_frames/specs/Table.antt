@@ -1,7 +1,7 @@
 -- The known frame types with their fields (RFC 0029, section 5.3), from bytes and to bytes.
 use Rattle.std.specs.Prelude.{ℕ, zero, suc, List, [], ◌∷◌, Option, Some, None, Bool, ◌==◌, ◌||◌, if◌then◌else◌, length}
 use Rattle.st_oer.specs.Address.{is_address}
-use Rattle.st_frames.specs.Frames.{Known, ConnectionClose, ConnectionNewAddress, ConnectionMaxData, ConnectionDataBlocked, StreamClose, StreamMoney, StreamMaxMoney, StreamMoneyBlocked, StreamData, StreamMaxData, StreamDataBlocked}
+use Rattle.st_frames.specs.Frames.{Known, CloseFrame, ConnectionClose, OtherFrame, ConnectionNewAddress, LimitFrame, ConnectionMaxData, BlockedFrame, ConnectionDataBlocked, StreamClose, StreamMoney, StreamMaxMoney, StreamMoneyBlocked, StreamData, StreamMaxData, StreamDataBlocked}
 
 -- how a field is spelled (RFC 0030): UInt8, VarUInt, a VarUInt of any length, octets, UTF-8, an address or nothing
 pub data Field : Type 0 where
@@ -56,29 +56,29 @@ pub record Row : Type 0 where
 -- the row of a type number, or None for a type that is not known
 unfoldable pub row_of : ℕ → Option Row
 row_of type =
-    if type == 0x01 then Some (record { fields = Byte ∷ Text ∷ []; make = λ xs. ConnectionClose (num 0 xs) (str 1 xs) })
-    else (if type == 0x02 then Some (record { fields = Address ∷ []; make = λ xs. ConnectionNewAddress (str 0 xs) })
-    else (if type == 0x03 then Some (record { fields = Limit ∷ []; make = λ xs. ConnectionMaxData (num 0 xs) })
-    else (if type == 0x04 then Some (record { fields = Limit ∷ []; make = λ xs. ConnectionDataBlocked (num 0 xs) })
-    else (if type == 0x10 then Some (record { fields = Number ∷ Byte ∷ Text ∷ []; make = λ xs. StreamClose (num 0 xs) (num 1 xs) (str 2 xs) })
+    if type == 0x01 then Some (record { fields = Byte ∷ Text ∷ []; make = λ xs. CloseFrame (ConnectionClose (num 0 xs) (str 1 xs)) })
+    else (if type == 0x02 then Some (record { fields = Address ∷ []; make = λ xs. OtherFrame (ConnectionNewAddress (str 0 xs)) })
+    else (if type == 0x03 then Some (record { fields = Limit ∷ []; make = λ xs. LimitFrame (ConnectionMaxData (num 0 xs)) })
+    else (if type == 0x04 then Some (record { fields = Limit ∷ []; make = λ xs. BlockedFrame (ConnectionDataBlocked (num 0 xs)) })
+    else (if type == 0x10 then Some (record { fields = Number ∷ Byte ∷ Text ∷ []; make = λ xs. CloseFrame (StreamClose (num 0 xs) (num 1 xs) (str 2 xs)) })
     else (if type == 0x11 then Some (record { fields = Number ∷ Number ∷ []; make = λ xs. StreamMoney (num 0 xs) (num 1 xs) })
-    else (if type == 0x12 then Some (record { fields = Number ∷ Limit ∷ Limit ∷ []; make = λ xs. StreamMaxMoney (num 0 xs) (num 1 xs) (num 2 xs) })
-    else (if type == 0x13 then Some (record { fields = Number ∷ Limit ∷ Limit ∷ []; make = λ xs. StreamMoneyBlocked (num 0 xs) (num 1 xs) (num 2 xs) })
+    else (if type == 0x12 then Some (record { fields = Number ∷ Limit ∷ Limit ∷ []; make = λ xs. LimitFrame (StreamMaxMoney (num 0 xs) (num 1 xs) (num 2 xs)) })
+    else (if type == 0x13 then Some (record { fields = Number ∷ Limit ∷ Limit ∷ []; make = λ xs. BlockedFrame (StreamMoneyBlocked (num 0 xs) (num 1 xs) (num 2 xs)) })
     else (if type == 0x14 then Some (record { fields = Number ∷ Number ∷ Octets ∷ []; make = λ xs. StreamData (num 0 xs) (num 1 xs) (str 2 xs) })
-    else (if type == 0x15 then Some (record { fields = Number ∷ Limit ∷ []; make = λ xs. StreamMaxData (num 0 xs) (num 1 xs) })
-    else (if type == 0x16 then Some (record { fields = Number ∷ Limit ∷ []; make = λ xs. StreamDataBlocked (num 0 xs) (num 1 xs) })
+    else (if type == 0x15 then Some (record { fields = Number ∷ Limit ∷ []; make = λ xs. LimitFrame (StreamMaxData (num 0 xs) (num 1 xs)) })
+    else (if type == 0x16 then Some (record { fields = Number ∷ Limit ∷ []; make = λ xs. BlockedFrame (StreamDataBlocked (num 0 xs) (num 1 xs)) })
     else None))))))))))
 
 -- the type number of a frame, and what its fields hold in their order
 abbrev pub layout : Known → ℕ × List Item
-layout (ConnectionClose code message) = (0x01, Code code ∷ Bytes message ∷ [])
-layout (ConnectionNewAddress address) = (0x02, Bytes address ∷ [])
-layout (ConnectionMaxData max_offset) = (0x03, Num max_offset ∷ [])
-layout (ConnectionDataBlocked max_offset) = (0x04, Num max_offset ∷ [])
-layout (StreamClose stream code message) = (0x10, Num stream ∷ Code code ∷ Bytes message ∷ [])
+layout (CloseFrame (ConnectionClose code message)) = (0x01, Code code ∷ Bytes message ∷ [])
+layout (OtherFrame (ConnectionNewAddress address)) = (0x02, Bytes address ∷ [])
+layout (LimitFrame (ConnectionMaxData max_offset)) = (0x03, Num max_offset ∷ [])
+layout (BlockedFrame (ConnectionDataBlocked max_offset)) = (0x04, Num max_offset ∷ [])
+layout (CloseFrame (StreamClose stream code message)) = (0x10, Num stream ∷ Code code ∷ Bytes message ∷ [])
 layout (StreamMoney stream shares) = (0x11, Num stream ∷ Num shares ∷ [])
-layout (StreamMaxMoney stream receive_max total_received) = (0x12, Num stream ∷ Num receive_max ∷ Num total_received ∷ [])
-layout (StreamMoneyBlocked stream send_max total_sent) = (0x13, Num stream ∷ Num send_max ∷ Num total_sent ∷ [])
+layout (LimitFrame (StreamMaxMoney stream receive_max total_received)) = (0x12, Num stream ∷ Num receive_max ∷ Num total_received ∷ [])
+layout (BlockedFrame (StreamMoneyBlocked stream send_max total_sent)) = (0x13, Num stream ∷ Num send_max ∷ Num total_sent ∷ [])
 layout (StreamData stream offset bytes) = (0x14, Num stream ∷ Num offset ∷ Bytes bytes ∷ [])
-layout (StreamMaxData stream max_offset) = (0x15, Num stream ∷ Num max_offset ∷ [])
-layout (StreamDataBlocked stream max_offset) = (0x16, Num stream ∷ Num max_offset ∷ [])
+layout (LimitFrame (StreamMaxData stream max_offset)) = (0x15, Num stream ∷ Num max_offset ∷ [])
+layout (BlockedFrame (StreamDataBlocked stream max_offset)) = (0x16, Num stream ∷ Num max_offset ∷ [])

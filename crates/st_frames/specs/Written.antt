@@ -5,7 +5,7 @@ use Rattle.st_oer.specs.Spelling.{octets, var_uint}
 use Rattle.st_oer.specs.Text.{is_utf8}
 use Rattle.st_frames.specs.declared.error.FrameError.{FrameError}
 use Rattle.st_frames.specs.declared.error.FrameError.TheVariants.{FrameFormat, TooLong}
-use Rattle.st_frames.specs.Frames.{Known, Packet, ConnectionNewAddress, max_packet}
+use Rattle.st_frames.specs.Frames.{Known, Packet, OtherFrame, ConnectionNewAddress, max_packet}
 use Rattle.st_frames.specs.Table.{Field, Byte, Number, Limit, Octets, Text, Address, Item, Code, Num, Bytes, is_address_text, Row, row_of, layout}
 
 -- the bytes of an item
@@ -42,7 +42,7 @@ packet_length sequence amount ks = 2 + length (var_uint sequence) + length (var_
 
 -- a frame with an invalid address can't be written
 abbrev pub is_unwritable : Known → Bool
-is_unwritable (ConnectionNewAddress address) = not (is_address_text address)
+is_unwritable (OtherFrame (ConnectionNewAddress address)) = not (is_address_text address)
 is_unwritable k = false
 
 -- a text, unless a frame can't be written, or the text is too long

@@ -10,7 +10,7 @@ use Rattle.st_ilp.specs.Reading.{answer_at, prepare_at}
 use Rattle.st_ilp.specs.declared.error.IlpError.{IlpError}
 use Rattle.st_keys.specs.declared.error.KeyError.{KeyError}
 use Rattle.st_keys.specs.Sealed.{opened}
-use Rattle.st_frames.specs.Frames.{Known, ConnectionClose, ConnectionNewAddress, ConnectionMaxData, ConnectionDataBlocked, StreamClose, StreamMoney, StreamMaxMoney, StreamMoneyBlocked, StreamData, StreamMaxData, StreamDataBlocked, Packet, frames_of}
+use Rattle.st_frames.specs.Frames.{Known, CloseFrame, ConnectionClose, OtherFrame, LimitFrame, ConnectionMaxData, BlockedFrame, ConnectionDataBlocked, StreamClose, StreamMoney, StreamMaxMoney, StreamMoneyBlocked, StreamData, StreamMaxData, StreamDataBlocked, Packet, frames_of}
 use Rattle.st_frames.specs.Told.{shares}
 use Rattle.st_streams.specs.Slots.{Slots, slot}
 use Rattle.st_streams.proofs.SlotLemmas.{slot_cases, slot_map}
@@ -68,16 +68,14 @@ module _ (Q : ℕ → Type 0) where
 
   whole_acked : (s : Sending) (f : Known) → AllSent Q s → AllSent Q (after_whole_acked s f)
   whole_acked s (StreamMoney k n) h = sent_changed s k _ h
-  whole_acked s (StreamClose k code message) h = sent_changed s k _ h
-  whole_acked s (StreamDataBlocked k n) h = sent_changed s k _ h
-  whole_acked s (StreamMoneyBlocked k n t) h = sent_changed s k _ h
+  whole_acked s (CloseFrame (StreamClose k code message)) h = sent_changed s k _ h
+  whole_acked s (BlockedFrame (StreamDataBlocked k n)) h = sent_changed s k _ h
+  whole_acked s (BlockedFrame (StreamMoneyBlocked k n t)) h = sent_changed s k _ h
   whole_acked s (StreamData k o xs) h = h
-  whole_acked s (ConnectionDataBlocked n) h = h
-  whole_acked s (ConnectionMaxData n) h = h
-  whole_acked s (StreamMaxData k n) h = h
-  whole_acked s (StreamMaxMoney k n t) h = h
-  whole_acked s (ConnectionClose code message) h = h
-  whole_acked s (ConnectionNewAddress address) h = h
+  whole_acked s (BlockedFrame (ConnectionDataBlocked n)) h = h
+  whole_acked s (LimitFrame l) h = h
+  whole_acked s (CloseFrame (ConnectionClose code message)) h = h
+  whole_acked s (OtherFrame o) h = h
 
   acked : (s : Sending) (f : SentFrame) → AllSent Q s → AllSent Q (after_acked s f)
   acked s (Data k o n) h = sent_changed s k (acked_data o n) h
@@ -88,17 +86,14 @@ module _ (Q : ℕ → Type 0) where
   all_acked (f ∷ fs) s h = all_acked fs (after_acked s f) (acked s f h)
 
   told_one : (s : Sending) (f : Known) → AllSent Q s → AllSent Q (after_told s f)
-  told_one s (StreamMaxData k n) h = sent_changed s k _ h
-  told_one s (StreamMaxMoney k n t) h = sent_changed s k _ h
-  told_one s (ConnectionMaxData n) h = h
+  told_one s (LimitFrame (StreamMaxData k n)) h = sent_changed s k _ h
+  told_one s (LimitFrame (StreamMaxMoney k n t)) h = sent_changed s k _ h
+  told_one s (LimitFrame (ConnectionMaxData n)) h = h
   told_one s (StreamData k o xs) h = h
   told_one s (StreamMoney k n) h = h
-  told_one s (StreamClose k code message) h = h
-  told_one s (StreamDataBlocked k n) h = h
-  told_one s (StreamMoneyBlocked k n t) h = h
-  told_one s (ConnectionDataBlocked n) h = h
-  told_one s (ConnectionClose code message) h = h
-  told_one s (ConnectionNewAddress address) h = h
+  told_one s (CloseFrame c) h = h
+  told_one s (BlockedFrame b) h = h
+  told_one s (OtherFrame o) h = h
 
   all_told : (fs : List Known) (s : Sending) → AllSent Q s → AllSent Q (after_all_told s fs)
   all_told [] s h = h
@@ -158,7 +153,7 @@ module _ (Q : ℕ → Type 0) where
 
   -- each stream that closes name
   abbrev ClosesOne : Known → Type 0
-  ClosesOne (StreamClose k code message) = Q k
+  ClosesOne (CloseFrame (StreamClose k code message)) = Q k
   ClosesOne f = Unit {0}
 
   abbrev ClosesAll : List Known → Type 0
@@ -166,17 +161,13 @@ module _ (Q : ℕ → Type 0) where
   ClosesAll (f ∷ fs) = ClosesOne f × ClosesAll fs
 
   close_in : (r : Receiving) (f : Known) → ClosesOne f → AllRead Q r → AllRead Q (after_close r f)
-  close_in r (StreamClose k code message) q h = read_with r k (with_close code (incoming_at r k)) q h
+  close_in r (CloseFrame (StreamClose k code message)) q h = read_with r k (with_close code (incoming_at r k)) q h
   close_in r (StreamData k o xs) q h = h
   close_in r (StreamMoney k n) q h = h
-  close_in r (ConnectionClose code message) q h = h
-  close_in r (ConnectionNewAddress address) q h = h
-  close_in r (ConnectionMaxData n) q h = h
-  close_in r (ConnectionDataBlocked n) q h = h
-  close_in r (StreamMaxMoney k m t) q h = h
-  close_in r (StreamMoneyBlocked k m t) q h = h
-  close_in r (StreamMaxData k n) q h = h
-  close_in r (StreamDataBlocked k n) q h = h
+  close_in r (CloseFrame (ConnectionClose code message)) q h = h
+  close_in r (OtherFrame o) q h = h
+  close_in r (LimitFrame l) q h = h
+  close_in r (BlockedFrame b) q h = h
 
   closes_in : (fs : List Known) (r : Receiving) → ClosesAll fs → AllRead Q r → AllRead Q (after_closes r fs)
   unfolding after_closes
@@ -188,17 +179,13 @@ module _ (Q : ℕ → Type 0) where
   abort_open code (Some x) = refl
 
   ended_in : (r : Receiving) (f : Known) → AllRead Q r → AllRead Q (after_connection_close r f)
-  ended_in r (ConnectionClose code message) h = λ k on. h k (sym (ap is_some (slot_map (with_abort code) refl r.streams k) ∙ abort_open code (slot r.streams k)) ∙ on)
-  ended_in r (StreamClose k code message) h = h
+  ended_in r (CloseFrame (ConnectionClose code message)) h = λ k on. h k (sym (ap is_some (slot_map (with_abort code) refl r.streams k) ∙ abort_open code (slot r.streams k)) ∙ on)
+  ended_in r (CloseFrame (StreamClose k code message)) h = h
   ended_in r (StreamData k o xs) h = h
   ended_in r (StreamMoney k n) h = h
-  ended_in r (ConnectionNewAddress address) h = h
-  ended_in r (ConnectionMaxData n) h = h
-  ended_in r (ConnectionDataBlocked n) h = h
-  ended_in r (StreamMaxMoney k m t) h = h
-  ended_in r (StreamMoneyBlocked k m t) h = h
-  ended_in r (StreamMaxData k n) h = h
-  ended_in r (StreamDataBlocked k n) h = h
+  ended_in r (OtherFrame o) h = h
+  ended_in r (LimitFrame l) h = h
+  ended_in r (BlockedFrame b) h = h
 
   all_ended_in : (fs : List Known) (r : Receiving) → AllRead Q r → AllRead Q (after_connection_closes r fs)
   unfolding after_connection_closes
@@ -245,15 +232,11 @@ module _ (Q : ℕ → Type 0) (p : ℕ) (peers : (k : ℕ) → k % 2 ≢ p → Q
   frame_in : (r : Receiving) (f : Known) → frame_fault r f ≡ None → r.parity ≡ p → AllRead Q r → Fine f (after_frame r f)
   frame_in r (StreamData k o xs) e same h = record { closes = tt; parity = same; reads = read_with Q r k (with_data o xs (incoming_at r k)) (named r k (or_none _ _ e).0 same h) h }
   frame_in r (StreamMoney k n) e same h = record { closes = tt; parity = same; reads = read_with Q r k (incoming_at r k) (named r k e same h) h }
-  frame_in r (StreamClose k code message) e same h = let q = named r k e same h in record { closes = q; parity = same; reads = read_with Q r k (incoming_at r k) q h }
-  frame_in r (ConnectionClose code message) e same h = record { closes = tt; parity = same; reads = h }
-  frame_in r (ConnectionNewAddress address) e same h = record { closes = tt; parity = same; reads = h }
-  frame_in r (ConnectionMaxData n) e same h = record { closes = tt; parity = same; reads = h }
-  frame_in r (ConnectionDataBlocked n) e same h = record { closes = tt; parity = same; reads = h }
-  frame_in r (StreamMaxMoney k m t) e same h = record { closes = tt; parity = same; reads = h }
-  frame_in r (StreamMoneyBlocked k m t) e same h = record { closes = tt; parity = same; reads = h }
-  frame_in r (StreamMaxData k n) e same h = record { closes = tt; parity = same; reads = h }
-  frame_in r (StreamDataBlocked k n) e same h = record { closes = tt; parity = same; reads = h }
+  frame_in r (CloseFrame (StreamClose k code message)) e same h = let q = named r k e same h in record { closes = q; parity = same; reads = read_with Q r k (incoming_at r k) q h }
+  frame_in r (CloseFrame (ConnectionClose code message)) e same h = record { closes = tt; parity = same; reads = h }
+  frame_in r (OtherFrame o) e same h = record { closes = tt; parity = same; reads = h }
+  frame_in r (LimitFrame l) e same h = record { closes = tt; parity = same; reads = h }
+  frame_in r (BlockedFrame b) e same h = record { closes = tt; parity = same; reads = h }
 
   frames_in : (fs : List Known) (r : Receiving) → frames_fault r fs ≡ None → r.parity ≡ p → AllRead Q r → ClosesAll Q fs × (AllRead Q (after_frames r fs))
   unfolding frames_fault after_frames

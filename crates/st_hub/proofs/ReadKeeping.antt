@@ -2,7 +2,7 @@
 use Rattle.std.proofs.Common.{◌≡◌, ℕ, zero, suc, ◌+◌, Bool, true, false, cond, List, [], ◌∷◌, length, refl, ap, ◌∙◌, arith, Option, None, Some, inl, inr, nat_eq, nat_lt, length-set}
 use Rattle.std.proofs.lemmas.List.{length-map}
 use Rattle.std.specs.FinMap as fmap
-use Rattle.st_frames.specs.Frames.{Known, ConnectionClose, ConnectionNewAddress, ConnectionMaxData, ConnectionDataBlocked, StreamClose, StreamMoney, StreamMaxMoney, StreamMoneyBlocked, StreamData, StreamMaxData, StreamDataBlocked, Packet, frames_of}
+use Rattle.st_frames.specs.Frames.{Known, CloseFrame, ConnectionClose, OtherFrame, LimitFrame, BlockedFrame, StreamClose, StreamMoney, StreamData, Packet, frames_of}
 use Rattle.st_frames.specs.Told.{shares}
 use Rattle.st_streams.specs.Slots.{Slots, slot}
 use Rattle.st_streams.proofs.SlotLemmas.{slot_cases, slot_map}
@@ -63,15 +63,11 @@ abort_read h code = held_if (is_over h) h (record h { bytes = fmap.empty; aborte
 frame_read : (r : Receiving) (f : Known) → KeepsRead 0 r (after_frame r f)
 frame_read r (StreamData k o xs) = read_with r k (with_data o xs (incoming_at r k)) (insert_read xs o (incoming_at r k).held)
 frame_read r (StreamMoney k n) = read_with r k (incoming_at r k) refl
-frame_read r (StreamClose k code message) = read_with r k (incoming_at r k) refl
-frame_read r (ConnectionClose code message) = read_same r
-frame_read r (ConnectionNewAddress address) = read_same r
-frame_read r (ConnectionMaxData n) = read_same r
-frame_read r (ConnectionDataBlocked n) = read_same r
-frame_read r (StreamMaxMoney k m t) = read_same r
-frame_read r (StreamMoneyBlocked k m t) = read_same r
-frame_read r (StreamMaxData k n) = read_same r
-frame_read r (StreamDataBlocked k n) = read_same r
+frame_read r (CloseFrame (StreamClose k code message)) = read_with r k (incoming_at r k) refl
+frame_read r (CloseFrame (ConnectionClose code message)) = read_same r
+frame_read r (OtherFrame o) = read_same r
+frame_read r (LimitFrame l) = read_same r
+frame_read r (BlockedFrame b) = read_same r
 
 frames_read : (fs : List Known) (r : Receiving) → KeepsRead 0 r (after_frames r fs)
 unfolding after_frames
@@ -118,17 +114,13 @@ close_if true h code = finish_read h
 close_if false h code = abort_read h code
 
 close_read : (r : Receiving) (f : Known) → KeepsRead 0 r (after_close r f)
-close_read r (StreamClose k code message) = read_with r k (with_close code (incoming_at r k)) (close_if (nat_eq code 1) (incoming_at r k).held code)
+close_read r (CloseFrame (StreamClose k code message)) = read_with r k (with_close code (incoming_at r k)) (close_if (nat_eq code 1) (incoming_at r k).held code)
 close_read r (StreamData k o xs) = read_same r
 close_read r (StreamMoney k n) = read_same r
-close_read r (ConnectionClose code message) = read_same r
-close_read r (ConnectionNewAddress address) = read_same r
-close_read r (ConnectionMaxData n) = read_same r
-close_read r (ConnectionDataBlocked n) = read_same r
-close_read r (StreamMaxMoney k m t) = read_same r
-close_read r (StreamMoneyBlocked k m t) = read_same r
-close_read r (StreamMaxData k n) = read_same r
-close_read r (StreamDataBlocked k n) = read_same r
+close_read r (CloseFrame (ConnectionClose code message)) = read_same r
+close_read r (OtherFrame o) = read_same r
+close_read r (LimitFrame l) = read_same r
+close_read r (BlockedFrame b) = read_same r
 
 closes_read : (fs : List Known) (r : Receiving) → KeepsRead 0 r (after_closes r fs)
 unfolding after_closes
@@ -140,22 +132,18 @@ aborted_read code None = refl
 aborted_read code (Some x) = abort_read x.held code
 
 ended_read : (r : Receiving) (f : Known) → KeepsRead 0 r (after_connection_close r f)
-ended_read r (ConnectionClose code message) = record {
+ended_read r (CloseFrame (ConnectionClose code message)) = record {
   width = length-map r.streams (with_abort code);
   each = λ k. ap delivered_of (slot_map (with_abort code) refl r.streams k) ∙ aborted_read code (slot r.streams k);
   credit = omega arith;
   parity = refl;
 }
-ended_read r (StreamClose k code message) = read_same r
+ended_read r (CloseFrame (StreamClose k code message)) = read_same r
 ended_read r (StreamData k o xs) = read_same r
 ended_read r (StreamMoney k n) = read_same r
-ended_read r (ConnectionNewAddress address) = read_same r
-ended_read r (ConnectionMaxData n) = read_same r
-ended_read r (ConnectionDataBlocked n) = read_same r
-ended_read r (StreamMaxMoney k m t) = read_same r
-ended_read r (StreamMoneyBlocked k m t) = read_same r
-ended_read r (StreamMaxData k n) = read_same r
-ended_read r (StreamDataBlocked k n) = read_same r
+ended_read r (OtherFrame o) = read_same r
+ended_read r (LimitFrame l) = read_same r
+ended_read r (BlockedFrame b) = read_same r
 
 all_ended_read : (fs : List Known) (r : Receiving) → KeepsRead 0 r (after_connection_closes r fs)
 unfolding after_connection_closes

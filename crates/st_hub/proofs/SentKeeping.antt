@@ -8,7 +8,7 @@ use Rattle.st_ilp.specs.Reading.{answer_at}
 use Rattle.st_ilp.specs.declared.error.IlpError.{IlpError}
 use Rattle.st_keys.specs.declared.error.KeyError.{KeyError}
 use Rattle.st_keys.specs.Sealed.{opened}
-use Rattle.st_frames.specs.Frames.{Known, ConnectionClose, ConnectionNewAddress, ConnectionMaxData, ConnectionDataBlocked, StreamClose, StreamMoney, StreamMaxMoney, StreamMoneyBlocked, StreamData, StreamMaxData, StreamDataBlocked, Packet, frames_of}
+use Rattle.st_frames.specs.Frames.{Known, CloseFrame, ConnectionClose, OtherFrame, LimitFrame, ConnectionMaxData, BlockedFrame, ConnectionDataBlocked, StreamClose, StreamMoney, StreamMaxMoney, StreamMoneyBlocked, StreamData, StreamMaxData, StreamDataBlocked, Packet, frames_of}
 use Rattle.st_streams.proofs.SlotLemmas.{slot_cases}
 use Rattle.st_sender.specs.Sending.{Sending, Outgoing, SentFrame, Data, Whole, Flight, Marks, new_outgoing, outgoing_at, with_outgoing, changed_at, changed}
 use Rattle.st_sender.specs.Answering.{acked_data, acked_close, after_whole_acked, after_acked, after_all_acked, landed, after_fulfilled, after_failed, Plain, after_told, after_all_told}
@@ -61,15 +61,15 @@ close_alike false x = out_alike x (record x { abort_settled = true }) refl refl
 whole_acked : (s : Sending) (f : Known) → KeepsSent s (after_whole_acked s f)
 whole_acked s (StreamData k o xs) = sent_same s
 whole_acked s (StreamMoney k n) = sent_changed s k _ (λ x. out_alike x _ refl refl)
-whole_acked s (StreamClose k code message) = sent_changed s k (acked_close code) (λ x. close_alike (nat_eq code 1) x)
-whole_acked s (StreamDataBlocked k n) = sent_changed s k _ (λ x. out_alike x _ refl refl)
-whole_acked s (StreamMoneyBlocked k n t) = sent_changed s k _ (λ x. out_alike x _ refl refl)
-whole_acked s (ConnectionDataBlocked n) = record { width = refl; each = λ k. out_same (outgoing_at s k); paid = omega arith }
-whole_acked s (ConnectionMaxData n) = record { width = refl; each = λ k. out_same (outgoing_at s k); paid = omega arith }
-whole_acked s (StreamMaxData k n) = record { width = refl; each = λ k. out_same (outgoing_at s k); paid = omega arith }
-whole_acked s (StreamMaxMoney k n t) = record { width = refl; each = λ k. out_same (outgoing_at s k); paid = omega arith }
-whole_acked s (ConnectionClose code message) = sent_same s
-whole_acked s (ConnectionNewAddress address) = sent_same s
+whole_acked s (CloseFrame (StreamClose k code message)) = sent_changed s k (acked_close code) (λ x. close_alike (nat_eq code 1) x)
+whole_acked s (BlockedFrame (StreamDataBlocked k n)) = sent_changed s k _ (λ x. out_alike x _ refl refl)
+whole_acked s (BlockedFrame (StreamMoneyBlocked k n t)) = sent_changed s k _ (λ x. out_alike x _ refl refl)
+whole_acked s (BlockedFrame (ConnectionDataBlocked n)) = record { width = refl; each = λ k. out_same (outgoing_at s k); paid = omega arith }
+whole_acked s (LimitFrame (ConnectionMaxData n)) = record { width = refl; each = λ k. out_same (outgoing_at s k); paid = omega arith }
+whole_acked s (LimitFrame (StreamMaxData k n)) = record { width = refl; each = λ k. out_same (outgoing_at s k); paid = omega arith }
+whole_acked s (LimitFrame (StreamMaxMoney k n t)) = record { width = refl; each = λ k. out_same (outgoing_at s k); paid = omega arith }
+whole_acked s (CloseFrame (ConnectionClose code message)) = sent_same s
+whole_acked s (OtherFrame o) = sent_same s
 
 retained : {X : Type 0} (m : fmap.FinMap nat_cmp X) (p : ℕ → Bool) (q : ℕ) (y : X) → fmap.get (fmap.retain_keys m p) q ≡ Some y → fmap.get m q ≡ Some y
 retained m p q y e = grind (arith, common_steps, fmap.gets, fmap.get-retain_keys)
@@ -83,17 +83,14 @@ all_acked [] s = sent_same s
 all_acked (f ∷ fs) s = sent_join s (after_acked s f) (after_all_acked (after_acked s f) fs) (acked s f) (all_acked fs (after_acked s f))
 
 told : (s : Sending) (f : Known) → KeepsSent s (after_told s f)
-told s (StreamMaxData k n) = sent_changed s k _ (λ x. out_alike x _ refl refl)
-told s (StreamMaxMoney k n t) = sent_changed s k _ (λ x. out_alike x _ refl refl)
-told s (ConnectionMaxData n) = record { width = refl; each = λ k. out_same (outgoing_at s k); paid = omega arith }
+told s (LimitFrame (StreamMaxData k n)) = sent_changed s k _ (λ x. out_alike x _ refl refl)
+told s (LimitFrame (StreamMaxMoney k n t)) = sent_changed s k _ (λ x. out_alike x _ refl refl)
+told s (LimitFrame (ConnectionMaxData n)) = record { width = refl; each = λ k. out_same (outgoing_at s k); paid = omega arith }
 told s (StreamData k o xs) = sent_same s
 told s (StreamMoney k n) = sent_same s
-told s (StreamClose k code message) = sent_same s
-told s (StreamDataBlocked k n) = sent_same s
-told s (StreamMoneyBlocked k n t) = sent_same s
-told s (ConnectionDataBlocked n) = sent_same s
-told s (ConnectionClose code message) = sent_same s
-told s (ConnectionNewAddress address) = sent_same s
+told s (CloseFrame c) = sent_same s
+told s (BlockedFrame b) = sent_same s
+told s (OtherFrame o) = sent_same s
 
 pub all_told : (fs : List Known) (s : Sending) → KeepsSent s (after_all_told s fs)
 all_told [] s = sent_same s

@@ -9,7 +9,7 @@ use Rattle.std.proofs.lemmas.Bool.{cases_eq}
 use Rattle.st_streams.specs.Slots.{Slots, slot}
 use Rattle.st_streams.proofs.SlotLemmas.{slot_within}
 use Rattle.std.proofs.lemmas.Bool.Decides.{nat_tests}
-use Rattle.st_frames.specs.Frames.{Known, frame_of, ConnectionClose, ConnectionNewAddress, ConnectionMaxData, ConnectionDataBlocked, StreamClose, StreamMoney, StreamMaxMoney, StreamMoneyBlocked, StreamData, StreamMaxData, StreamDataBlocked}
+use Rattle.st_frames.specs.Frames.{Known, frame_of, CloseFrame, ConnectionClose, OtherFrame, LimitFrame, BlockedFrame, StreamClose, StreamMoney, StreamData}
 use Rattle.st_reassembly.specs.Held.{Held}
 use Rattle.st_receiver.specs.Streams.{Incoming, Receiving, fresh_incoming, incoming_or, incoming_at, with_incoming, is_open, may_name}
 use Rattle.st_receiver.specs.Data.{data_fault, frame_fault, after_frame, frames_fault, after_frames}
@@ -170,15 +170,11 @@ same_number stream k false e h = grind (arith, nat_tests)
 frame_below : (r : Receiving) (f : Known) (k : ℕ) → frame_fault r f ≡ None → opens k f ≡ true → k < 65
 frame_below r (StreamData stream o xs) k e h = same_number stream k (is_open r stream || not (nat_eq (stream % 2) r.parity)) h (may_of (may_name r stream) (data_fault r stream o xs) e)
 frame_below r (StreamMoney stream n) k e h = same_number stream k (is_open r stream || not (nat_eq (stream % 2) r.parity)) h (may_alone (may_name r stream) e)
-frame_below r (StreamClose stream code message) k e h = same_number stream k (is_open r stream || not (nat_eq (stream % 2) r.parity)) h (may_alone (may_name r stream) e)
-frame_below r (ConnectionClose code message) k e h = absurd cc
-frame_below r (ConnectionNewAddress address) k e h = absurd cc
-frame_below r (ConnectionMaxData n) k e h = absurd cc
-frame_below r (ConnectionDataBlocked n) k e h = absurd cc
-frame_below r (StreamMaxMoney s n m) k e h = absurd cc
-frame_below r (StreamMoneyBlocked s n m) k e h = absurd cc
-frame_below r (StreamMaxData s n) k e h = absurd cc
-frame_below r (StreamDataBlocked s n) k e h = absurd cc
+frame_below r (CloseFrame (StreamClose stream code message)) k e h = same_number stream k (is_open r stream || not (nat_eq (stream % 2) r.parity)) h (may_alone (may_name r stream) e)
+frame_below r (CloseFrame (ConnectionClose code message)) k e h = absurd cc
+frame_below r (OtherFrame o) k e h = absurd cc
+frame_below r (LimitFrame l) k e h = absurd cc
+frame_below r (BlockedFrame b) k e h = absurd cc
 
 pub opens_below : (r : Receiving) (fs : List Known) (k : ℕ) → frames_fault r fs ≡ None → list_any (opens k) fs ≡ true → k < 65
 opens_below r [] k e h = absurd cc

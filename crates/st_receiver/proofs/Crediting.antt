@@ -10,7 +10,7 @@ use Rattle.std.proofs.lemmas.Bool.{cases_eq}
 use Rattle.std.proofs.lemmas.List.{length-set}
 use Rattle.st_streams.specs.Slots.{Slots, slot}
 use Rattle.st_streams.proofs.SlotLemmas.{slot_cases, slot_here}
-use Rattle.st_frames.specs.Frames.{Known, Packet, frames_of, ConnectionClose, ConnectionNewAddress, ConnectionMaxData, ConnectionDataBlocked, StreamClose, StreamMoney, StreamMaxMoney, StreamMoneyBlocked, StreamData, StreamMaxData, StreamDataBlocked}
+use Rattle.st_frames.specs.Frames.{Known, Packet, frames_of, CloseFrame, ConnectionClose, OtherFrame, LimitFrame, BlockedFrame, StreamClose, StreamMoney, StreamData}
 use Rattle.st_frames.specs.Told.{money_of, money_in, shares}
 use Rattle.st_reassembly.specs.Held.{Held}
 use Rattle.st_receiver.specs.declared.reason.Reason.{Reason}
@@ -105,15 +105,11 @@ money_with r k y j h = elim (slot_cases r.streams k y j) [
 frame_money : (r : Receiving) (f : Known) (j : ℕ) → SameMoney (incoming_at r j) (incoming_at (after_frame r f) j)
 frame_money r (StreamData k o xs) j = money_with r k (with_data o xs (incoming_at r k)) j (record { receive_max = refl; credited = refl })
 frame_money r (StreamMoney k n) j = money_with r k (incoming_at r k) j (money_itself (incoming_at r k))
-frame_money r (StreamClose k code message) j = money_with r k (incoming_at r k) j (money_itself (incoming_at r k))
-frame_money r (ConnectionClose code message) j = money_itself (incoming_at r j)
-frame_money r (ConnectionNewAddress address) j = money_itself (incoming_at r j)
-frame_money r (ConnectionMaxData n) j = money_itself (incoming_at r j)
-frame_money r (ConnectionDataBlocked n) j = money_itself (incoming_at r j)
-frame_money r (StreamMaxMoney k n m) j = money_itself (incoming_at r j)
-frame_money r (StreamMoneyBlocked k n m) j = money_itself (incoming_at r j)
-frame_money r (StreamMaxData k n) j = money_itself (incoming_at r j)
-frame_money r (StreamDataBlocked k n) j = money_itself (incoming_at r j)
+frame_money r (CloseFrame (StreamClose k code message)) j = money_with r k (incoming_at r k) j (money_itself (incoming_at r k))
+frame_money r (CloseFrame (ConnectionClose code message)) j = money_itself (incoming_at r j)
+frame_money r (OtherFrame o) j = money_itself (incoming_at r j)
+frame_money r (LimitFrame l) j = money_itself (incoming_at r j)
+frame_money r (BlockedFrame b) j = money_itself (incoming_at r j)
 
 pub frames_money : (r : Receiving) (fs : List Known) (j : ℕ) → SameMoney (incoming_at r j) (incoming_at (after_frames r fs) j)
 unfolding after_frames
@@ -129,15 +125,11 @@ open_with r k y j h = elim (slot_cases r.streams k y j) [
 frame_stays : (r : Receiving) (f : Known) (j : ℕ) → is_open r j ≡ true → is_open (after_frame r f) j ≡ true
 frame_stays r (StreamData k o xs) j h = open_with r k (with_data o xs (incoming_at r k)) j h
 frame_stays r (StreamMoney k n) j h = open_with r k (incoming_at r k) j h
-frame_stays r (StreamClose k code message) j h = open_with r k (incoming_at r k) j h
-frame_stays r (ConnectionClose code message) j h = h
-frame_stays r (ConnectionNewAddress address) j h = h
-frame_stays r (ConnectionMaxData n) j h = h
-frame_stays r (ConnectionDataBlocked n) j h = h
-frame_stays r (StreamMaxMoney k n m) j h = h
-frame_stays r (StreamMoneyBlocked k n m) j h = h
-frame_stays r (StreamMaxData k n) j h = h
-frame_stays r (StreamDataBlocked k n) j h = h
+frame_stays r (CloseFrame (StreamClose k code message)) j h = open_with r k (incoming_at r k) j h
+frame_stays r (CloseFrame (ConnectionClose code message)) j h = h
+frame_stays r (OtherFrame o) j h = h
+frame_stays r (LimitFrame l) j h = h
+frame_stays r (BlockedFrame b) j h = h
 
 frames_stay : (r : Receiving) (fs : List Known) (j : ℕ) → is_open r j ≡ true → is_open (after_frames r fs) j ≡ true
 unfolding after_frames
@@ -147,15 +139,11 @@ frames_stay r (f ∷ fs) j h = frames_stay (after_frame r f) fs j (frame_stays r
 frame_length : (r : Receiving) (f : Known) → length (after_frame r f).streams ≡ length r.streams
 frame_length r (StreamData k o xs) = length-set r.streams k (Some (with_data o xs (incoming_at r k)))
 frame_length r (StreamMoney k n) = length-set r.streams k (Some (incoming_at r k))
-frame_length r (StreamClose k code message) = length-set r.streams k (Some (incoming_at r k))
-frame_length r (ConnectionClose code message) = refl
-frame_length r (ConnectionNewAddress address) = refl
-frame_length r (ConnectionMaxData n) = refl
-frame_length r (ConnectionDataBlocked n) = refl
-frame_length r (StreamMaxMoney k n m) = refl
-frame_length r (StreamMoneyBlocked k n m) = refl
-frame_length r (StreamMaxData k n) = refl
-frame_length r (StreamDataBlocked k n) = refl
+frame_length r (CloseFrame (StreamClose k code message)) = length-set r.streams k (Some (incoming_at r k))
+frame_length r (CloseFrame (ConnectionClose code message)) = refl
+frame_length r (OtherFrame o) = refl
+frame_length r (LimitFrame l) = refl
+frame_length r (BlockedFrame b) = refl
 
 pub frames_length : (r : Receiving) (fs : List Known) → length (after_frames r fs).streams ≡ length r.streams
 unfolding after_frames
@@ -177,15 +165,10 @@ frame_opens r (StreamMoney stream n) k l h =
     let e : k ≡ stream = equal stream k (same_stream (nat_eq stream k) n h) in
     subst (λ i. is_open (with_incoming r i (incoming_at r i)) k ≡ true) e (ap is_some (slot_here r.streams k (incoming_at r k) l))
 frame_opens r (StreamData s o xs) k l h = no_money h
-frame_opens r (StreamClose s code message) k l h = no_money h
-frame_opens r (ConnectionClose code message) k l h = no_money h
-frame_opens r (ConnectionNewAddress address) k l h = no_money h
-frame_opens r (ConnectionMaxData n) k l h = no_money h
-frame_opens r (ConnectionDataBlocked n) k l h = no_money h
-frame_opens r (StreamMaxMoney s n m) k l h = no_money h
-frame_opens r (StreamMoneyBlocked s n m) k l h = no_money h
-frame_opens r (StreamMaxData s n) k l h = no_money h
-frame_opens r (StreamDataBlocked s n) k l h = no_money h
+frame_opens r (CloseFrame c) k l h = no_money h
+frame_opens r (OtherFrame o) k l h = no_money h
+frame_opens r (LimitFrame limit) k l h = no_money h
+frame_opens r (BlockedFrame b) k l h = no_money h
 
 -- a stream that has shares is open once the frames came
 frames_open : (r : Receiving) (fs : List Known) (k : ℕ) → k < length r.streams → 0 < money_in k fs → is_open (after_frames r fs) k ≡ true
@@ -269,15 +252,10 @@ paid_credit r amount fs k xs len pos l e =
 frame_credit : (r : Receiving) (f : Known) → (after_frame r f).credit ≡ r.credit
 frame_credit r (StreamData k o xs) = refl
 frame_credit r (StreamMoney k n) = refl
-frame_credit r (StreamClose k code message) = refl
-frame_credit r (ConnectionClose code message) = refl
-frame_credit r (ConnectionNewAddress address) = refl
-frame_credit r (ConnectionMaxData n) = refl
-frame_credit r (ConnectionDataBlocked n) = refl
-frame_credit r (StreamMaxMoney k n m) = refl
-frame_credit r (StreamMoneyBlocked k n m) = refl
-frame_credit r (StreamMaxData k n) = refl
-frame_credit r (StreamDataBlocked k n) = refl
+frame_credit r (CloseFrame c) = refl
+frame_credit r (OtherFrame o) = refl
+frame_credit r (LimitFrame l) = refl
+frame_credit r (BlockedFrame b) = refl
 
 pub frames_credit : (r : Receiving) (fs : List Known) → (after_frames r fs).credit ≡ r.credit
 unfolding after_frames

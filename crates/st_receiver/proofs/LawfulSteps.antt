@@ -5,7 +5,7 @@ use Rattle.std.proofs.lemmas.List.{length-set, length-map}
 use Rattle.std.proofs.lemmas.Bool.Decides.{nat_tests}
 use Rattle.st_streams.specs.Slots.{Slots, slot}
 use Rattle.st_streams.proofs.SlotLemmas.{slot_cases, slot_map}
-use Rattle.st_frames.specs.Frames.{Known, Packet, frames_of, ConnectionClose, ConnectionNewAddress, ConnectionMaxData, ConnectionDataBlocked, StreamClose, StreamMoney, StreamMaxMoney, StreamMoneyBlocked, StreamData, StreamMaxData, StreamDataBlocked}
+use Rattle.st_frames.specs.Frames.{Known, Packet, frames_of, CloseFrame, ConnectionClose, OtherFrame, LimitFrame, BlockedFrame, StreamClose, StreamMoney, StreamData}
 use Rattle.st_frames.specs.Told.{shares}
 use Rattle.st_reassembly.specs.Held.{Held, is_over}
 use Rattle.st_reassembly.specs.Run.{run, after_take}
@@ -72,15 +72,11 @@ written r k y f e = record {
 frame_follows : (r : Receiving) (f : Known) → Follows r (after_frame r f)
 frame_follows r (StreamData k o xs) = written r k (with_data o xs (incoming_at r k)) (data_ends (incoming_at r k) o xs) refl
 frame_follows r (StreamMoney k n) = written r k (incoming_at r k) (λ h. h) refl
-frame_follows r (StreamClose k code message) = written r k (incoming_at r k) (λ h. h) refl
-frame_follows r (ConnectionClose code message) = itself r
-frame_follows r (ConnectionNewAddress address) = itself r
-frame_follows r (ConnectionMaxData n) = itself r
-frame_follows r (ConnectionDataBlocked n) = itself r
-frame_follows r (StreamMaxMoney k n m) = itself r
-frame_follows r (StreamMoneyBlocked k n m) = itself r
-frame_follows r (StreamMaxData k n) = itself r
-frame_follows r (StreamDataBlocked k n) = itself r
+frame_follows r (CloseFrame (StreamClose k code message)) = written r k (incoming_at r k) (λ h. h) refl
+frame_follows r (CloseFrame (ConnectionClose code message)) = itself r
+frame_follows r (OtherFrame o) = itself r
+frame_follows r (LimitFrame l) = itself r
+frame_follows r (BlockedFrame b) = itself r
 
 frames_follow : (r : Receiving) (fs : List Known) → Follows r (after_frames r fs)
 unfolding after_frames
@@ -97,17 +93,13 @@ close_ends : (code : ℕ) (x : Incoming) → EndsAtHighest (with_close code x)
 close_ends code x = over_ends (with_close code x) (closed_over (is_over x.held) (nat_eq code 1) x.held (Some (past_all x.held)) (Some code) refl refl refl)
 
 close_follows : (r : Receiving) (f : Known) → Follows r (after_close r f)
-close_follows r (StreamClose k code message) = written r k (with_close code (incoming_at r k)) (λ h. close_ends code (incoming_at r k)) refl
+close_follows r (CloseFrame (StreamClose k code message)) = written r k (with_close code (incoming_at r k)) (λ h. close_ends code (incoming_at r k)) refl
 close_follows r (StreamData k o xs) = itself r
 close_follows r (StreamMoney k n) = itself r
-close_follows r (ConnectionClose code message) = itself r
-close_follows r (ConnectionNewAddress address) = itself r
-close_follows r (ConnectionMaxData n) = itself r
-close_follows r (ConnectionDataBlocked n) = itself r
-close_follows r (StreamMaxMoney k n m) = itself r
-close_follows r (StreamMoneyBlocked k n m) = itself r
-close_follows r (StreamMaxData k n) = itself r
-close_follows r (StreamDataBlocked k n) = itself r
+close_follows r (CloseFrame (ConnectionClose code message)) = itself r
+close_follows r (OtherFrame o) = itself r
+close_follows r (LimitFrame l) = itself r
+close_follows r (BlockedFrame b) = itself r
 
 closes_follow : (r : Receiving) (fs : List Known) → Follows r (after_closes r fs)
 unfolding after_closes
@@ -128,22 +120,18 @@ aborted_credits code [] = refl
 aborted_credits code (s ∷ ss) = let first = aborted_credit code s in let rest = aborted_credits code ss in λ i. first i ∷ rest i
 
 connection_follows : (r : Receiving) (f : Known) → Follows r (after_connection_close r f)
-connection_follows r (ConnectionClose code message) = record {
+connection_follows r (CloseFrame (ConnectionClose code message)) = record {
   ends = λ h k x e. aborted_ends code (slot r.streams k) x (sym (slot_map (with_abort code) refl r.streams k) ∙ e);
   credits = aborted_credits code r.streams;
   credit = refl;
   len = length-map r.streams (with_abort code);
 }
-connection_follows r (StreamClose k code message) = itself r
+connection_follows r (CloseFrame (StreamClose k code message)) = itself r
 connection_follows r (StreamData k o xs) = itself r
 connection_follows r (StreamMoney k n) = itself r
-connection_follows r (ConnectionNewAddress address) = itself r
-connection_follows r (ConnectionMaxData n) = itself r
-connection_follows r (ConnectionDataBlocked n) = itself r
-connection_follows r (StreamMaxMoney k n m) = itself r
-connection_follows r (StreamMoneyBlocked k n m) = itself r
-connection_follows r (StreamMaxData k n) = itself r
-connection_follows r (StreamDataBlocked k n) = itself r
+connection_follows r (OtherFrame o) = itself r
+connection_follows r (LimitFrame l) = itself r
+connection_follows r (BlockedFrame b) = itself r
 
 connections_follow : (r : Receiving) (fs : List Known) → Follows r (after_connection_closes r fs)
 unfolding after_connection_closes

@@ -7,7 +7,7 @@ use Rattle.std.proofs.lemmas.Bool.Decides.{nat_tests}
 use Rattle.std.proofs.lemmas.List.{length-set}
 use Rattle.st_streams.specs.Slots.{Slots, slot}
 use Rattle.st_streams.proofs.SlotLemmas.{slot_cases, slot_map}
-use Rattle.st_frames.specs.Frames.{Known, ConnectionClose, ConnectionNewAddress, ConnectionMaxData, ConnectionDataBlocked, StreamClose, StreamMoney, StreamMaxMoney, StreamMoneyBlocked, StreamData, StreamMaxData, StreamDataBlocked}
+use Rattle.st_frames.specs.Frames.{Known, CloseFrame, ConnectionClose, OtherFrame, LimitFrame, BlockedFrame, StreamClose, StreamMoney, StreamData}
 use Rattle.st_reassembly.specs.Held.{Held, is_over}
 use Rattle.st_reassembly.specs.Closing.{past_all, after_finish, after_abort}
 use Rattle.st_receiver.specs.Streams.{Incoming, Receiving, fresh_incoming, incoming_or, incoming_at, with_incoming, may_name, received_of}
@@ -44,15 +44,11 @@ same s k e = grind (arith, nat_tests)
 frame_named : (r : Receiving) (f : Known) (k : ℕ) → frame_fault r f ≡ None → opens k f ≡ true → may_name r k ≡ true
 frame_named r (StreamData s o xs) k e h = subst (λ j. may_name r j ≡ true) (same s k h) (may_of (may_name r s) _ e)
 frame_named r (StreamMoney s n) k e h = subst (λ j. may_name r j ≡ true) (same s k h) (may_alone (may_name r s) e)
-frame_named r (StreamClose s code message) k e h = subst (λ j. may_name r j ≡ true) (same s k h) (may_alone (may_name r s) e)
-frame_named r (ConnectionClose code message) k e h = absurd cc
-frame_named r (ConnectionNewAddress address) k e h = absurd cc
-frame_named r (ConnectionMaxData n) k e h = absurd cc
-frame_named r (ConnectionDataBlocked n) k e h = absurd cc
-frame_named r (StreamMaxMoney s n m) k e h = absurd cc
-frame_named r (StreamMoneyBlocked s n m) k e h = absurd cc
-frame_named r (StreamMaxData s n) k e h = absurd cc
-frame_named r (StreamDataBlocked s n) k e h = absurd cc
+frame_named r (CloseFrame (StreamClose s code message)) k e h = subst (λ j. may_name r j ≡ true) (same s k h) (may_alone (may_name r s) e)
+frame_named r (CloseFrame (ConnectionClose code message)) k e h = absurd cc
+frame_named r (OtherFrame o) k e h = absurd cc
+frame_named r (LimitFrame l) k e h = absurd cc
+frame_named r (BlockedFrame b) k e h = absurd cc
 
 -- what frames that break no rule open, may be named
 tracked_named : (r cur : Receiving) (ends : List ℕ) (fs : List Known) (k : ℕ) → frames_fault cur fs ≡ None → Tracks r cur ends → list_any (opens k) fs ≡ true → may_name r k ≡ true
@@ -68,30 +64,22 @@ same_true : (k : ℕ) → nat_eq k k ≡ true
 same_true k = grind (arith, nat_tests)
 
 close_length : (r : Receiving) (f : Known) → length (after_close r f).streams ≡ length r.streams
-close_length r (StreamClose s code message) = length-set r.streams s (Some (with_close code (incoming_at r s)))
+close_length r (CloseFrame (StreamClose s code message)) = length-set r.streams s (Some (with_close code (incoming_at r s)))
 close_length r (StreamData s o xs) = refl
 close_length r (StreamMoney s n) = refl
-close_length r (ConnectionClose code message) = refl
-close_length r (ConnectionNewAddress address) = refl
-close_length r (ConnectionMaxData n) = refl
-close_length r (ConnectionDataBlocked n) = refl
-close_length r (StreamMaxMoney s n m) = refl
-close_length r (StreamMoneyBlocked s n m) = refl
-close_length r (StreamMaxData s n) = refl
-close_length r (StreamDataBlocked s n) = refl
+close_length r (CloseFrame (ConnectionClose code message)) = refl
+close_length r (OtherFrame o) = refl
+close_length r (LimitFrame l) = refl
+close_length r (BlockedFrame b) = refl
 
 close_names : (r : Receiving) (f : Known) (j : ℕ) → length r.streams ≡ 65 → ((k : ℕ) → opens k f ≡ true → may_name r k ≡ true) → may_name (after_close r f) j ≡ may_name r j
-close_names r (StreamClose s code message) j len h = names_with r s (with_close code (incoming_at r s)) len (h s (same_true s)) j
+close_names r (CloseFrame (StreamClose s code message)) j len h = names_with r s (with_close code (incoming_at r s)) len (h s (same_true s)) j
 close_names r (StreamData s o xs) j len h = refl
 close_names r (StreamMoney s n) j len h = refl
-close_names r (ConnectionClose code message) j len h = refl
-close_names r (ConnectionNewAddress address) j len h = refl
-close_names r (ConnectionMaxData n) j len h = refl
-close_names r (ConnectionDataBlocked n) j len h = refl
-close_names r (StreamMaxMoney s n m) j len h = refl
-close_names r (StreamMoneyBlocked s n m) j len h = refl
-close_names r (StreamMaxData s n) j len h = refl
-close_names r (StreamDataBlocked s n) j len h = refl
+close_names r (CloseFrame (ConnectionClose code message)) j len h = refl
+close_names r (OtherFrame o) j len h = refl
+close_names r (LimitFrame l) j len h = refl
+close_names r (BlockedFrame b) j len h = refl
 
 closes_names : (r : Receiving) (fs : List Known) (j : ℕ) → length r.streams ≡ 65 → ((k : ℕ) → list_any (opens k) fs ≡ true → may_name r k ≡ true) → may_name (after_closes r fs) j ≡ may_name r j
 unfolding after_closes
@@ -108,17 +96,13 @@ abbrev named_by : ℕ → ℕ → Bool → Bool
 named_by k parity o = nat_le 1 k && nat_le k 64 && (o || not (nat_eq (k % 2) parity))
 
 connection_names : (r : Receiving) (f : Known) (j : ℕ) → may_name (after_connection_close r f) j ≡ may_name r j
-connection_names r (ConnectionClose code message) j = ap (named_by j r.parity) (ap is_some (slot_map (with_abort code) refl r.streams j) ∙ with_abort-open code (slot r.streams j))
-connection_names r (StreamClose s code message) j = refl
+connection_names r (CloseFrame (ConnectionClose code message)) j = ap (named_by j r.parity) (ap is_some (slot_map (with_abort code) refl r.streams j) ∙ with_abort-open code (slot r.streams j))
+connection_names r (CloseFrame (StreamClose s code message)) j = refl
 connection_names r (StreamData s o xs) j = refl
 connection_names r (StreamMoney s n) j = refl
-connection_names r (ConnectionNewAddress address) j = refl
-connection_names r (ConnectionMaxData n) j = refl
-connection_names r (ConnectionDataBlocked n) j = refl
-connection_names r (StreamMaxMoney s n m) j = refl
-connection_names r (StreamMoneyBlocked s n m) j = refl
-connection_names r (StreamMaxData s n) j = refl
-connection_names r (StreamDataBlocked s n) j = refl
+connection_names r (OtherFrame o) j = refl
+connection_names r (LimitFrame l) j = refl
+connection_names r (BlockedFrame b) j = refl
 
 connections_names : (r : Receiving) (fs : List Known) (j : ℕ) → may_name (after_connection_closes r fs) j ≡ may_name r j
 unfolding after_connection_closes
@@ -175,19 +159,15 @@ close_read true code h = finish_read (is_over h) h (Some (past_all h))
 close_read false code h = abort_read (is_over h) h (Some code)
 
 close_told : (r : Receiving) (f : Known) (j : ℕ) → SameTold (incoming_at r j) (incoming_at (after_close r f) j)
-close_told r (StreamClose k code message) j =
+close_told r (CloseFrame (StreamClose k code message)) j =
     let x = incoming_at r k in
     told_with r k (with_close code x) j (record { read = close_read (nat_eq code 1) code x.held; receive_max = refl; credited = refl })
 close_told r (StreamData k o xs) j = told_itself (incoming_at r j)
 close_told r (StreamMoney k n) j = told_itself (incoming_at r j)
-close_told r (ConnectionClose code message) j = told_itself (incoming_at r j)
-close_told r (ConnectionNewAddress address) j = told_itself (incoming_at r j)
-close_told r (ConnectionMaxData n) j = told_itself (incoming_at r j)
-close_told r (ConnectionDataBlocked n) j = told_itself (incoming_at r j)
-close_told r (StreamMaxMoney k n m) j = told_itself (incoming_at r j)
-close_told r (StreamMoneyBlocked k n m) j = told_itself (incoming_at r j)
-close_told r (StreamMaxData k n) j = told_itself (incoming_at r j)
-close_told r (StreamDataBlocked k n) j = told_itself (incoming_at r j)
+close_told r (CloseFrame (ConnectionClose code message)) j = told_itself (incoming_at r j)
+close_told r (OtherFrame o) j = told_itself (incoming_at r j)
+close_told r (LimitFrame l) j = told_itself (incoming_at r j)
+close_told r (BlockedFrame b) j = told_itself (incoming_at r j)
 
 closes_told : (r : Receiving) (fs : List Known) (j : ℕ) → SameTold (incoming_at r j) (incoming_at (after_closes r fs) j)
 unfolding after_closes
@@ -199,19 +179,15 @@ aborted_told code m None = told_itself (fresh_incoming m)
 aborted_told code m (Some x) = record { read = abort_read (is_over x.held) x.held (Some code); receive_max = refl; credited = refl }
 
 connection_advertised : (r : Receiving) (f : Known) (j : ℕ) → SameTold (incoming_at r j) (incoming_at (after_connection_close r f) j)
-connection_advertised r (ConnectionClose code message) j =
+connection_advertised r (CloseFrame (ConnectionClose code message)) j =
     let m = slice_index r.kept j in
     subst (λ o. SameTold (incoming_at r j) (incoming_or (fresh_incoming m) o)) (sym (slot_map (with_abort code) refl r.streams j)) (aborted_told code m (slot r.streams j))
-connection_advertised r (StreamClose k code message) j = told_itself (incoming_at r j)
+connection_advertised r (CloseFrame (StreamClose k code message)) j = told_itself (incoming_at r j)
 connection_advertised r (StreamData k o xs) j = told_itself (incoming_at r j)
 connection_advertised r (StreamMoney k n) j = told_itself (incoming_at r j)
-connection_advertised r (ConnectionNewAddress address) j = told_itself (incoming_at r j)
-connection_advertised r (ConnectionMaxData n) j = told_itself (incoming_at r j)
-connection_advertised r (ConnectionDataBlocked n) j = told_itself (incoming_at r j)
-connection_advertised r (StreamMaxMoney k n m) j = told_itself (incoming_at r j)
-connection_advertised r (StreamMoneyBlocked k n m) j = told_itself (incoming_at r j)
-connection_advertised r (StreamMaxData k n) j = told_itself (incoming_at r j)
-connection_advertised r (StreamDataBlocked k n) j = told_itself (incoming_at r j)
+connection_advertised r (OtherFrame o) j = told_itself (incoming_at r j)
+connection_advertised r (LimitFrame l) j = told_itself (incoming_at r j)
+connection_advertised r (BlockedFrame b) j = told_itself (incoming_at r j)
 
 connections_told : (r : Receiving) (fs : List Known) (j : ℕ) → SameTold (incoming_at r j) (incoming_at (after_connection_closes r fs) j)
 unfolding after_connection_closes

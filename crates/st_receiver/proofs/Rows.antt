@@ -4,7 +4,7 @@ use Rattle.std.specs.Prelude.{slice_index}
 use Rattle.std.proofs.lemmas.List.{append-nil, append_assoc, get_or-replicate}
 use Rattle.std.specs.List.{flat_map, range_with_len, list_any}
 use Rattle.st_streams.specs.Slots.{slot}
-use Rattle.st_frames.specs.Frames.{Known, Packet, frames_of, ConnectionMaxData}
+use Rattle.st_frames.specs.Frames.{Known, Packet, frames_of, LimitFrame, ConnectionMaxData}
 use Rattle.st_frames.specs.Told.{names}
 use Rattle.st_receiver.specs.Streams.{Incoming, Receiving, fresh_incoming, incoming_or, incoming_at, may_name, credited_of}
 use Rattle.st_receiver.specs.Data.{frames_fault, after_frames}
@@ -35,13 +35,13 @@ flat_same f g a (suc n) h =
 
 -- the limits of the first streams
 abbrev pub first_told : Receiving → (limit : ℕ) → List Bool → List ℕ → ℕ → List Known
-first_told r limit named totals n = ConnectionMaxData limit ∷ flat_map (told_at r named totals) (range_with_len 1 n)
+first_told r limit named totals n = LimitFrame (ConnectionMaxData limit) ∷ flat_map (told_at r named totals) (range_with_len 1 n)
 
 pub told-more : (r : Receiving) (limit : ℕ) (named : List Bool) (totals : List ℕ) (n : ℕ) (ks : List Known) → ks ≡ first_told r limit named totals n → ks ++ told_at r named totals (n + 1) ≡ first_told r limit named totals (n + 1)
 told-more r limit named totals n ks e =
     let at : n + 1 ≡ 1 + n = omega arith in
     ap (λ l. l ++ told_at r named totals (n + 1)) e
-    ∙ ap (λ l. ConnectionMaxData limit ∷ l) (ap (λ m. flat_map (told_at r named totals) (range_with_len 1 n) ++ told_at r named totals m) at ∙ sym (flat-more (told_at r named totals) 1 n))
+    ∙ ap (λ l. LimitFrame (ConnectionMaxData limit) ∷ l) (ap (λ m. flat_map (told_at r named totals) (range_with_len 1 n) ++ told_at r named totals m) at ∙ sym (flat-more (told_at r named totals) 1 n))
 
 pub told-all : (r : Receiving) (limit : ℕ) (named : List Bool) (totals : List ℕ) (n : ℕ) → n ≡ 64 → first_told r limit named totals n ≡ told_frames r limit named totals
 unfolding told_frames
@@ -62,7 +62,7 @@ told_limits r limit totals l t =
     let all = flat_same (told_at r (replicate 65 true) totals) (limits_of r) 1 64 (λ k a b.
     ap (λ c. cond c (limits_with r k (slice_index totals k)) []) (get_or-replicate 65 k true false b)
     ∙ with_same r k (slice_index totals k) (ap (λ ns. get_or ns k 0) t ∙ get_or-map credited_of r.streams k refl)) in
-    λ i. ConnectionMaxData (l i) ∷ all i
+    λ i. LimitFrame (ConnectionMaxData (l i)) ∷ all i
 
 -- a reply while nothing changes
 pub told_reply : (r : Receiving) (limit : ℕ) (named : List Bool) (totals : List ℕ) (fs : List Known) → limit ≡ connection_limit r → totals ≡ map credited_of r.streams
@@ -72,7 +72,7 @@ told_reply r limit named totals fs l t n =
     let all = flat_same (told_at r named totals) (named_limits r fs) 1 64 (λ k a b.
     ap (λ c. cond c (limits_with r k (slice_index totals k)) []) (n k b)
     ∙ ap (λ ls. cond (list_any (names k) fs) ls []) (with_same r k (slice_index totals k) (ap (λ ns. get_or ns k 0) t ∙ get_or-map credited_of r.streams k refl))) in
-    λ i. ConnectionMaxData (l i) ∷ all i
+    λ i. LimitFrame (ConnectionMaxData (l i)) ∷ all i
 
 told_same : (k : ℕ) (x y : Incoming) (total : ℕ) → y.held.read ≡ x.held.read → y.receive_max ≡ x.receive_max → y.credited ≡ total → told_by k (with_total total x) ≡ told_by k y
 told_same k x y total a b c = sym (λ i. told_by k (record x { held = record x.held { read = a i }; receive_max = b i; credited = c i }))
@@ -90,4 +90,4 @@ told_effect r p amount limit named totals len lawful l t n =
     let may = effect_names r amount fs k len lawful in
     let told = told_same k (incoming_at r k) (incoming_at after k) (slice_index totals k) same.read same.receive_max (same.credited ∙ sym (t k b)) in
     ap (λ c. cond c (limits_with r k (slice_index totals k)) []) (n k b) ∙ (λ i. cond (list_any (names k) fs) (cond (sym may i) (told i) []) [])) in
-    λ i. ConnectionMaxData (l i) ∷ all i
+    λ i. LimitFrame (ConnectionMaxData (l i)) ∷ all i

@@ -6,7 +6,7 @@ use Rattle.std.proofs.lemmas.Bool.Decides.{nat_tests}
 use Rattle.std.proofs.lemmas.Bool.{cases_eq}
 use Rattle.std.proofs.lemmas.Grind.{common_steps}
 use Rattle.std.proofs.lemmas.List.{get_or-set_same, get_or-set_other, length-set}
-use Rattle.st_frames.specs.Frames.{Known, frame_of, ConnectionClose, ConnectionNewAddress, ConnectionMaxData, ConnectionDataBlocked, StreamClose, StreamMoney, StreamMaxMoney, StreamMoneyBlocked, StreamData, StreamMaxData, StreamDataBlocked}
+use Rattle.st_frames.specs.Frames.{Known, frame_of, CloseFrame, OtherFrame, LimitFrame, BlockedFrame, StreamMoney, StreamData}
 use Rattle.st_frames.specs.Told.{money_of, money_in, shares}
 use Rattle.st_receiver.specs.Money.{rounded, with_rest, parts}
 use Rattle.st_receiver.specs.Inside.{with_shares, with_all_shares}
@@ -40,15 +40,10 @@ set_grows (m ∷ ms) (suc k) n = let h = set_grows ms k n in let a = sum-cons m 
 shares_grow : (ms : List ℕ) (f : Known) → sum ms ≤ sum (with_shares ms f)
 shares_grow ms (StreamMoney k n) = set_grows ms k n
 shares_grow ms (StreamData k o xs) = omega arith
-shares_grow ms (StreamClose k code message) = omega arith
-shares_grow ms (ConnectionClose code message) = omega arith
-shares_grow ms (ConnectionNewAddress address) = omega arith
-shares_grow ms (ConnectionMaxData n) = omega arith
-shares_grow ms (ConnectionDataBlocked n) = omega arith
-shares_grow ms (StreamMaxMoney k n m) = omega arith
-shares_grow ms (StreamMoneyBlocked k n m) = omega arith
-shares_grow ms (StreamMaxData k n) = omega arith
-shares_grow ms (StreamDataBlocked k n) = omega arith
+shares_grow ms (CloseFrame c) = omega arith
+shares_grow ms (OtherFrame o) = omega arith
+shares_grow ms (LimitFrame l) = omega arith
+shares_grow ms (BlockedFrame b) = omega arith
 
 pub all_grow : (ms : List ℕ) (fs : List Known) → sum ms ≤ sum (with_all_shares ms fs)
 unfolding with_all_shares
@@ -66,15 +61,10 @@ shares-nil ms = refl
 length-shares : (ms : List ℕ) (f : Known) → length (with_shares ms f) ≡ length ms
 length-shares ms (StreamMoney k n) = length-set ms k (get_or ms k 0 + n)
 length-shares ms (StreamData k o xs) = refl
-length-shares ms (StreamClose k code message) = refl
-length-shares ms (ConnectionClose code message) = refl
-length-shares ms (ConnectionNewAddress address) = refl
-length-shares ms (ConnectionMaxData n) = refl
-length-shares ms (ConnectionDataBlocked n) = refl
-length-shares ms (StreamMaxMoney k n m) = refl
-length-shares ms (StreamMoneyBlocked k n m) = refl
-length-shares ms (StreamMaxData k n) = refl
-length-shares ms (StreamDataBlocked k n) = refl
+length-shares ms (CloseFrame c) = refl
+length-shares ms (OtherFrame o) = refl
+length-shares ms (LimitFrame l) = refl
+length-shares ms (BlockedFrame b) = refl
 
 length-all : (ms : List ℕ) (fs : List Known) → length (with_all_shares ms fs) ≡ length ms
 unfolding with_all_shares
@@ -99,15 +89,10 @@ none_at n = omega arith
 shares_at : (ms : List ℕ) (f : Known) (k : ℕ) → k < length ms → get_or (with_shares ms f) k 0 ≡ get_or ms k 0 + money_of k f
 shares_at ms (StreamMoney stream n) k l = set_at ms stream n k l
 shares_at ms (StreamData s o xs) k l = none_at (get_or ms k 0)
-shares_at ms (StreamClose s code message) k l = none_at (get_or ms k 0)
-shares_at ms (ConnectionClose code message) k l = none_at (get_or ms k 0)
-shares_at ms (ConnectionNewAddress address) k l = none_at (get_or ms k 0)
-shares_at ms (ConnectionMaxData n) k l = none_at (get_or ms k 0)
-shares_at ms (ConnectionDataBlocked n) k l = none_at (get_or ms k 0)
-shares_at ms (StreamMaxMoney s n m) k l = none_at (get_or ms k 0)
-shares_at ms (StreamMoneyBlocked s n m) k l = none_at (get_or ms k 0)
-shares_at ms (StreamMaxData s n) k l = none_at (get_or ms k 0)
-shares_at ms (StreamDataBlocked s n) k l = none_at (get_or ms k 0)
+shares_at ms (CloseFrame c) k l = none_at (get_or ms k 0)
+shares_at ms (OtherFrame o) k l = none_at (get_or ms k 0)
+shares_at ms (LimitFrame limit) k l = none_at (get_or ms k 0)
+shares_at ms (BlockedFrame b) k l = none_at (get_or ms k 0)
 
 pub money-cons : (k : ℕ) (f : Known) (fs : List Known) → money_in k (f ∷ fs) ≡ money_of k f + money_in k fs
 money-cons k f fs = grind (arith, common_steps)

@@ -5,7 +5,7 @@ use Rattle.std.specs.List.{list_any}
 use Rattle.std.specs.FinMap.{empty}
 use Rattle.std.proofs.lemmas.List.{map-set, set-get_or, length-set, length-map, ext_get_or}
 use Rattle.st_streams.specs.Slots.{Slots, slot}
-use Rattle.st_frames.specs.Frames.{Known, ConnectionClose, ConnectionNewAddress, ConnectionMaxData, ConnectionDataBlocked, StreamClose, StreamMoney, StreamMaxMoney, StreamMoneyBlocked, StreamData, StreamMaxData, StreamDataBlocked}
+use Rattle.st_frames.specs.Frames.{Known, CloseFrame, ConnectionClose, OtherFrame, LimitFrame, BlockedFrame, StreamClose, StreamMoney, StreamData}
 use Rattle.st_reassembly.specs.Held.{Held, is_over}
 use Rattle.st_reassembly.specs.Closing.{past_all}
 use Rattle.st_receiver.specs.declared.closing.Tally.{Tally}
@@ -161,17 +161,13 @@ both_ways true code ss = map_of_map aborted_read (with_abort code) aborted_read 
 both_ways false code ss = map_of_map read_of (with_abort code) aborted_read (abort_reads code) ss
 
 connection_reads : (r : Receiving) (f : Known) (b : Bool) → reads_by b (after_connection_close r f).streams ≡ reads_by (closes_connection f || b) r.streams
-connection_reads r (ConnectionClose code message) b = both_ways b code r.streams
-connection_reads r (StreamClose k code message) b = refl
+connection_reads r (CloseFrame (ConnectionClose code message)) b = both_ways b code r.streams
+connection_reads r (CloseFrame (StreamClose k code message)) b = refl
 connection_reads r (StreamData k o xs) b = refl
 connection_reads r (StreamMoney k n) b = refl
-connection_reads r (ConnectionNewAddress address) b = refl
-connection_reads r (ConnectionMaxData n) b = refl
-connection_reads r (ConnectionDataBlocked n) b = refl
-connection_reads r (StreamMaxMoney k n m) b = refl
-connection_reads r (StreamMoneyBlocked k n m) b = refl
-connection_reads r (StreamMaxData k n) b = refl
-connection_reads r (StreamDataBlocked k n) b = refl
+connection_reads r (OtherFrame o) b = refl
+connection_reads r (LimitFrame l) b = refl
+connection_reads r (BlockedFrame blocked) b = refl
 
 pub connections_read : (r : Receiving) (fs : List Known) → map read_of (after_connection_closes r fs).streams ≡ reads_by (list_any closes_connection fs) r.streams
 unfolding after_connection_closes

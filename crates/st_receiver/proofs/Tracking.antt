@@ -7,7 +7,7 @@ use Rattle.std.proofs.lemmas.Grind.{common_steps}
 use Rattle.std.proofs.lemmas.Bool.{cases_eq}
 use Rattle.std.proofs.lemmas.Bool.Decides.{nat_tests}
 use Rattle.st_streams.specs.Slots.{Slots, slot}
-use Rattle.st_frames.specs.Frames.{Known, ConnectionClose, ConnectionNewAddress, ConnectionMaxData, ConnectionDataBlocked, StreamClose, StreamMoney, StreamMaxMoney, StreamMoneyBlocked, StreamData, StreamMaxData, StreamDataBlocked}
+use Rattle.st_frames.specs.Frames.{Known, CloseFrame, ConnectionClose, OtherFrame, LimitFrame, BlockedFrame, StreamClose, StreamMoney, StreamData}
 use Rattle.st_reassembly.specs.Held.{Held, is_over}
 use Rattle.st_reassembly.specs.Inserting.{inserted}
 use Rattle.st_receiver.specs.declared.reason.Reason.{Reason}
@@ -167,15 +167,11 @@ may_alone false e = absurd cc
 pub tracks-next : (r cur : Receiving) (ends : List ℕ) (limit : ℕ) (f : Known) → told_fault r ends limit f ≡ None → Tracks r cur ends → Tracks r (after_frame cur f) (ends_after r ends f)
 tracks-next r cur ends limit (StreamData k o xs) e t = tracks-data r cur ends k o xs (may_of (may_name r k) (piece_fault r ends limit k o xs) e) t
 tracks-next r cur ends limit (StreamMoney k n) e t = tracks-open r cur ends k (may_alone (may_name r k) e) t
-tracks-next r cur ends limit (StreamClose k code message) e t = tracks-open r cur ends k (may_alone (may_name r k) e) t
-tracks-next r cur ends limit (ConnectionClose code message) e t = t
-tracks-next r cur ends limit (ConnectionNewAddress address) e t = t
-tracks-next r cur ends limit (ConnectionMaxData n) e t = t
-tracks-next r cur ends limit (ConnectionDataBlocked n) e t = t
-tracks-next r cur ends limit (StreamMaxMoney k n m) e t = t
-tracks-next r cur ends limit (StreamMoneyBlocked k n m) e t = t
-tracks-next r cur ends limit (StreamMaxData k n) e t = t
-tracks-next r cur ends limit (StreamDataBlocked k n) e t = t
+tracks-next r cur ends limit (CloseFrame (StreamClose k code message)) e t = tracks-open r cur ends k (may_alone (may_name r k) e) t
+tracks-next r cur ends limit (CloseFrame (ConnectionClose code message)) e t = t
+tracks-next r cur ends limit (OtherFrame o) e t = t
+tracks-next r cur ends limit (LimitFrame l) e t = t
+tracks-next r cur ends limit (BlockedFrame b) e t = t
 
 stream_same : (r cur : Receiving) (ends : List ℕ) (k : ℕ) → Tracks r cur ends → stream_fault r k ≡ stream_fault cur k
 stream_same r cur ends k t = ap (λ b. cond b None (Some StreamId)) (sym (t.names k))
@@ -196,15 +192,11 @@ piece_same r cur ends limit k o xs b t =
 pub tracks-fault : (r cur : Receiving) (ends : List ℕ) (limit : ℕ) (f : Known) → limit ≡ connection_limit r → Tracks r cur ends → told_fault r ends limit f ≡ frame_fault cur f
 tracks-fault r cur ends limit (StreamData k o xs) b t = λ i. option_or (stream_same r cur ends k t i) (piece_same r cur ends limit k o xs b t i)
 tracks-fault r cur ends limit (StreamMoney k n) b t = stream_same r cur ends k t
-tracks-fault r cur ends limit (StreamClose k code message) b t = stream_same r cur ends k t
-tracks-fault r cur ends limit (ConnectionClose code message) b t = refl
-tracks-fault r cur ends limit (ConnectionNewAddress address) b t = refl
-tracks-fault r cur ends limit (ConnectionMaxData n) b t = refl
-tracks-fault r cur ends limit (ConnectionDataBlocked n) b t = refl
-tracks-fault r cur ends limit (StreamMaxMoney k n m) b t = refl
-tracks-fault r cur ends limit (StreamMoneyBlocked k n m) b t = refl
-tracks-fault r cur ends limit (StreamMaxData k n) b t = refl
-tracks-fault r cur ends limit (StreamDataBlocked k n) b t = refl
+tracks-fault r cur ends limit (CloseFrame (StreamClose k code message)) b t = stream_same r cur ends k t
+tracks-fault r cur ends limit (CloseFrame (ConnectionClose code message)) b t = refl
+tracks-fault r cur ends limit (OtherFrame o) b t = refl
+tracks-fault r cur ends limit (LimitFrame l) b t = refl
+tracks-fault r cur ends limit (BlockedFrame blocked) b t = refl
 
 pub tracks-itself : (r : Receiving) → length r.streams ≡ 65 → Tracks r r (map received_of r.streams)
 tracks-itself r l = record { highest = refl; reads = refl; spans = λ k. span_itself (held_at r k); names = λ k. refl; len = l }

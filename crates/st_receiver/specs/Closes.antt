@@ -2,7 +2,7 @@
 use Rattle.std.specs.Prelude.{ℕ, true, List, [], ◌∷◌, map, nat_eq, if◌then◌else◌}
 use Rattle.std.specs.declared.option.Option.{Option}
 use Rattle.std.specs.declared.option.Option.TheVariants.{None, Some}
-use Rattle.st_frames.specs.Frames.{Known, ConnectionClose, StreamClose}
+use Rattle.st_frames.specs.Frames.{Known, CloseFrame, ConnectionClose, StreamClose}
 use Rattle.st_reassembly.specs.Closing.{after_finish, after_abort}
 use Rattle.st_receiver.specs.Streams.{Incoming, Receiving, incoming_at, with_incoming}
 
@@ -11,7 +11,7 @@ abbrev pub with_close : ℕ → Incoming → Incoming
 with_close code x = record x { held = (if nat_eq code 1 then after_finish x.held else after_abort code x.held) }
 
 abbrev pub after_close : Receiving → Known → Receiving
-after_close r (StreamClose stream code message) = with_incoming r stream (with_close code (incoming_at r stream))
+after_close r (CloseFrame (StreamClose stream code message)) = with_incoming r stream (with_close code (incoming_at r stream))
 after_close r f = r
 
 unfoldable pub after_closes : Receiving → List Known → Receiving
@@ -24,7 +24,7 @@ with_abort code (Some x) = Some (record x { held = after_abort code x.held })
 
 -- a ConnectionClose aborts each direction that has not ended, with its code
 abbrev pub after_connection_close : Receiving → Known → Receiving
-after_connection_close r (ConnectionClose code message) = record r { streams = map (with_abort code) r.streams; closed = true }
+after_connection_close r (CloseFrame (ConnectionClose code message)) = record r { streams = map (with_abort code) r.streams; closed = true }
 after_connection_close r f = r
 
 unfoldable pub after_connection_closes : Receiving → List Known → Receiving

@@ -3,7 +3,7 @@ use Rattle.std.specs.Prelude.{ℕ, ◌+◌, Bool, not, ◌&&◌, ◌||◌, List,
 use Rattle.std.specs.declared.option.Option.{Option}
 use Rattle.std.specs.declared.option.Option.TheVariants.{None, Some}
 use Rattle.std.specs.Option.{option_or}
-use Rattle.st_frames.specs.Frames.{Known, StreamClose, StreamMoney, StreamData}
+use Rattle.st_frames.specs.Frames.{Known, CloseFrame, StreamClose, StreamMoney, StreamData}
 use Rattle.st_reassembly.specs.Held.{is_over, after_insert}
 use Rattle.st_reassembly.specs.Inserting.{inserted}
 use Rattle.st_receiver.specs.declared.reason.Reason.{Reason}
@@ -39,13 +39,13 @@ data_fault r stream offset xs =
 abbrev pub frame_fault : Receiving → Known → Option Reason
 frame_fault r (StreamData stream offset xs) = option_or (stream_fault r stream) (data_fault r stream offset xs)
 frame_fault r (StreamMoney stream shares) = stream_fault r stream
-frame_fault r (StreamClose stream code message) = stream_fault r stream
+frame_fault r (CloseFrame (StreamClose stream code message)) = stream_fault r stream
 frame_fault r f = None
 
 abbrev pub after_frame : Receiving → Known → Receiving
 after_frame r (StreamData stream offset xs) = after_data r stream offset xs
 after_frame r (StreamMoney stream shares) = opened_stream r stream
-after_frame r (StreamClose stream code message) = opened_stream r stream
+after_frame r (CloseFrame (StreamClose stream code message)) = opened_stream r stream
 after_frame r f = r
 
 -- the first frame that breaks a rule decides

@@ -6,7 +6,7 @@ use Rattle.std.specs.Option.{option_or}
 use Rattle.st_streams.specs.Slots.{slot}
 use Rattle.std.specs.Prelude.{slice_index_or, MatchResult, Result}
 use Rattle.std.specs.List.{flat_map, range_with_len}
-use Rattle.st_frames.specs.Frames.{Known, ConnectionClose, ConnectionMaxData, StreamClose, StreamMoney, StreamData}
+use Rattle.st_frames.specs.Frames.{Known, CloseFrame, ConnectionClose, LimitFrame, ConnectionMaxData, StreamClose, StreamMoney, StreamData}
 use Rattle.st_reassembly.specs.Held.{Held, nothing_held, is_over}
 use Rattle.st_reassembly.specs.Inserting.{inserted}
 use Rattle.st_receiver.specs.declared.reason.Reason.{Reason}
@@ -43,7 +43,7 @@ piece_fault r ends limit stream offset xs =
 abbrev pub told_fault : Receiving → List ℕ → (limit : ℕ) → Known → Option Reason
 told_fault r ends limit (StreamData stream offset xs) = option_or (stream_fault r stream) (piece_fault r ends limit stream offset xs)
 told_fault r ends limit (StreamMoney stream shares) = stream_fault r stream
-told_fault r ends limit (StreamClose stream code message) = stream_fault r stream
+told_fault r ends limit (CloseFrame (StreamClose stream code message)) = stream_fault r stream
 told_fault r ends limit f = None
 
 abbrev pub ends_after : Receiving → List ℕ → Known → List ℕ
@@ -124,7 +124,7 @@ closed_at t k code = record t {
 }
 
 abbrev pub closes_connection : Known → Bool
-closes_connection (ConnectionClose code message) = true
+closes_connection (CloseFrame (ConnectionClose code message)) = true
 closes_connection f = false
 
 -- what counts as read once what has not ended is aborted
@@ -147,4 +147,4 @@ abbrev pub told_at : Receiving → List Bool → List ℕ → ℕ → List Known
 told_at r named totals k = if slice_index_or named k false then limits_with r k (slice_index totals k) else []
 
 unfoldable pub told_frames : Receiving → (limit : ℕ) → List Bool → List ℕ → List Known
-told_frames r limit named totals = ConnectionMaxData limit ∷ flat_map (told_at r named totals) (range_with_len 1 64)
+told_frames r limit named totals = LimitFrame (ConnectionMaxData limit) ∷ flat_map (told_at r named totals) (range_with_len 1 64)

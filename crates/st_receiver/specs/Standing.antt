@@ -4,7 +4,7 @@ use Rattle.std.specs.List.{list_any}
 use Rattle.std.specs.Ordering.{nat_cmp}
 use Rattle.std.specs.FinSet.{FinSet}
 use Rattle.st_streams.specs.Slots.{Slots, slot}
-use Rattle.st_frames.specs.Frames.{Known, Packet, StreamClose, StreamMoney, StreamData, frames_of}
+use Rattle.st_frames.specs.Frames.{Known, Packet, CloseFrame, StreamClose, StreamMoney, StreamData, frames_of}
 use Rattle.st_reassembly.specs.Held.{Held}
 use Rattle.st_receiver.specs.Streams.{Receiving}
 
@@ -26,7 +26,7 @@ is_ready s k = is_some (slot s.state.streams k) || is_some (slot s.windows k)
 abbrev pub opens : ℕ → Known → Bool
 opens k (StreamData stream offset bytes) = nat_eq stream k
 opens k (StreamMoney stream shares) = nat_eq stream k
-opens k (StreamClose stream code message) = nat_eq stream k
+opens k (CloseFrame (StreamClose stream code message)) = nat_eq stream k
 opens k f = false
 
 -- each stream that these frames open is ready

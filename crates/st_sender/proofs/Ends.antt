@@ -4,7 +4,7 @@ use Rattle.std.specs.Prelude.{nat_eq}
 use Rattle.std.proofs.lemmas.Bool.{cases_eq}
 use Rattle.std.proofs.lemmas.Bool.Decides.{nat_tests}
 use Rattle.st_streams.specs.Slots.{Slots, slot}
-use Rattle.st_frames.specs.Frames.{Known, StreamClose}
+use Rattle.st_frames.specs.Frames.{Known, CloseFrame, StreamClose}
 use Rattle.st_sender.specs.declared.bounds.Bounds.{Bounds}
 use Rattle.st_sender.specs.declared.load.SentFrame as code
 use Rattle.st_sender.specs.declared.load.SentFrame.TheVariants as held
@@ -61,7 +61,7 @@ module _ (s : Sending) (lanes : Slots SendStream) (is : s.streams ≡ outs lanes
   next_ends m limits b [] p = omega (arith, ends_same s lanes 0 is len tied)
   next_ends m limits b (held.Data k o c ∷ fs) p =
       omega (arith, ends_more k o c (kept fs) p.0.is_own (no_top k fs p.1), next_ends m limits (left_by b (c + 32) (o + c - end_at lanes s.flights k)) fs p.2)
-  next_ends m limits b (held.Close k by ∷ fs) p = omega (arith, ends_whole (StreamClose k by []) (kept fs), next_ends m limits (less b 20) fs p.1)
+  next_ends m limits b (held.Close k by ∷ fs) p = omega (arith, ends_whole (CloseFrame (StreamClose k by [])) (kept fs), next_ends m limits (less b 20) fs p.1)
   next_ends m limits b (held.Notice n ∷ fs) p = omega (arith, ends_whole (telling n) (kept fs), next_ends m limits (less b 36) fs p.2)
 
   -- they take no more than is spare

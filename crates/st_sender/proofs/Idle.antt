@@ -5,7 +5,7 @@ use Rattle.std.specs.List.{list_any, sum_by}
 use Rattle.std.specs.FinMap as fmap
 use Rattle.std.proofs.lemmas.Bool.{cases_eq}
 use Rattle.std.proofs.lemmas.Bool.Decides.{nat_tests}
-use Rattle.st_frames.specs.Frames.{Known, ConnectionClose, ConnectionNewAddress, ConnectionMaxData, ConnectionDataBlocked, StreamClose, StreamMoney, StreamMaxMoney, StreamMoneyBlocked, StreamData, StreamMaxData, StreamDataBlocked}
+use Rattle.st_frames.specs.Frames.{Known, CloseFrame, ConnectionClose, OtherFrame, LimitFrame, BlockedFrame, StreamClose, StreamMoney, StreamData}
 use Rattle.st_streams.specs.Slots.{Slots, slot}
 use Rattle.st_sender.specs.Sending.{Outgoing, Data, Whole, SentFrame, Flight, Sending, outgoing_at}
 use Rattle.st_sender.specs.Flights.{any_frame, carries, due_at, sent_end, flying_end, highest_end, all_ends, flying_least, room_for, due_money}
@@ -35,7 +35,7 @@ abbrev pub data_flown : ℕ → ℕ → ℕ → List SentFrame
 data_flown k o n = Data k o n ∷ []
 
 abbrev pub close_alone : ℕ → ℕ → List Known
-close_alone k code = StreamClose k code [] ∷ []
+close_alone k code = CloseFrame (StreamClose k code []) ∷ []
 
 pub own_end : (k o n : ℕ) → max (cond (eqb k k) (o + n) 0) 0 ≡ o + n
 own_end k o n = grind (arith, nat_tests)
@@ -192,21 +192,17 @@ module _ (s : Sending) (lanes : Slots SendStream) (room : ℕ) (is : s.streams �
   pub idle : (limits : List Known) → lane_ends lanes s.flights 0 65 ≤ s.told → IsRatio s.config.least → IsRest lanes s.flights s.config.least s.packet_limit b → IsIdleOf true s limits room
   idle limits under ratio rest (StreamMoney k n) p due fits = no_unit ratio rest.1 k n due fits
   idle limits under ratio rest (StreamData k o xs) p due fits = no_data under rest.0.0 k o xs due fits
-  idle limits under ratio rest (StreamClose k code message) p due fits =
+  idle limits under ratio rest (CloseFrame (StreamClose k code message)) p due fits =
       let d : IsDueClose s k code = due.0 in
       let found = lane_open k d.stream d.is_open in
       let empty : message ≡ [] = due.1 in
-      let f : Fits s room (load_with s (close_alone k code)) = subst (λ m. Fits s room (load_with s (StreamClose k code m ∷ []))) empty fits in
+      let f : Fits s room (load_with s (close_alone k code)) = subst (λ m. Fits s room (load_with s ((CloseFrame (StreamClose k code m)) ∷ []))) empty fits in
       let size = free_length s (s.last + 1) room (close_alone k code) f.room_left in
       rest.0.1 k found.0 (within k found.0 found.1) found.1 code (record { idle = d.idle; asked = rw found.2 d.asked; room_left = omega (arith, size, close_packet (s.last + 1) k code) })
-  idle limits under ratio rest (StreamDataBlocked k n) p due fits = absurd (cc)
-  idle limits under ratio rest (ConnectionDataBlocked n) p due fits = absurd (cc)
-  idle limits under ratio rest (StreamMoneyBlocked k n t) p due fits = absurd (cc)
-  idle limits under ratio rest (ConnectionMaxData n) p due fits = absurd (cc)
-  idle limits under ratio rest (StreamMaxData k n) p due fits = absurd (cc)
-  idle limits under ratio rest (StreamMaxMoney k n t) p due fits = absurd (cc)
-  idle limits under ratio rest (ConnectionClose code message) p due fits = absurd (cc)
-  idle limits under ratio rest (ConnectionNewAddress address) p due fits = absurd (cc)
+  idle limits under ratio rest (BlockedFrame b) p due fits = absurd (cc)
+  idle limits under ratio rest (LimitFrame l) p due fits = absurd (cc)
+  idle limits under ratio rest (CloseFrame (ConnectionClose code message)) p due fits = absurd (cc)
+  idle limits under ratio rest (OtherFrame o) p due fits = absurd (cc)
 
   -- a frame that is ready by the numbers is due
   pub data_due : (c : Bounds) (k o n : ℕ) (r : IsReadyAt lanes s.flights c k o n) (xs : List ℕ) → AreBytes r.lane o n xs → IsDueData s k o xs

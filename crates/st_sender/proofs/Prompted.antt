@@ -7,7 +7,7 @@ use Rattle.std.proofs.lemmas.Bool.Decides.{nat_tests}
 use Rattle.std.proofs.lemmas.List.{drop_all}
 use Rattle.std.proofs.Math.Seq.{drop-cons}
 use Rattle.st_streams.specs.Slots.{Slots, slot}
-use Rattle.st_frames.specs.Frames.{Known, StreamClose, StreamData}
+use Rattle.st_frames.specs.Frames.{Known, CloseFrame, StreamClose, StreamData}
 use Rattle.st_sender.specs.declared.bounds.Bounds.{Bounds}
 use Rattle.st_sender.specs.declared.load.SentFrame as code
 use Rattle.st_sender.specs.declared.load.SentFrame.TheVariants as held
@@ -135,7 +135,7 @@ no_data (said.StreamMaxMoney j l t) k o xs = refl
 close_apart : (n by : ℕ) (f g : code.SentFrame) (xs : ℕ → List ℕ) → IsCloseBelow n f → g ≡ held.Close n by → same_due (known_by xs f) (known_by xs g) ≡ false
 close_apart n by (held.Data k o c) g xs p e = absurd p
 close_apart n by (held.Notice x) g xs p e = absurd p
-close_apart n by (held.Close k c) g xs p e = subst (λ (h : code.SentFrame). same_due (StreamClose k c []) (known_by xs h) ≡ false) (sym e) (lower k n c by p)
+close_apart n by (held.Close k c) g xs p e = subst (λ (h : code.SentFrame). same_due (CloseFrame (StreamClose k c [])) (known_by xs h) ≡ false) (sym e) (lower k n c by p)
   where
     lower : (k n c by : ℕ) → k < n → (nat_eq n k && nat_eq by c) ≡ false
     lower k n c by h = grind (arith, nat_tests)

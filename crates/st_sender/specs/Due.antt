@@ -4,7 +4,7 @@ use Rattle.std.specs.declared.option.Option.{Option}
 use Rattle.std.specs.declared.option.Option.TheVariants.{None, Some}
 use Rattle.std.specs.FinMap.{empty}
 use Rattle.st_streams.specs.Slots.{slot}
-use Rattle.st_frames.specs.Frames.{Known, ConnectionClose, ConnectionNewAddress, ConnectionMaxData, ConnectionDataBlocked, StreamClose, StreamMoney, StreamMaxMoney, StreamMoneyBlocked, StreamData, StreamMaxData, StreamDataBlocked}
+use Rattle.st_frames.specs.Frames.{Known, CloseFrame, ConnectionClose, OtherFrame, LimitFrame, ConnectionMaxData, BlockedFrame, ConnectionDataBlocked, StreamClose, StreamMoney, StreamMaxMoney, StreamMoneyBlocked, StreamData, StreamMaxData, StreamDataBlocked}
 use Rattle.st_sender.specs.Sending.{Outgoing, Data, Sending, outgoing_at}
 use Rattle.st_sender.specs.Flights.{any_frame, closes, tells, due_at, all_ends, room_for, due_money}
 
@@ -85,12 +85,12 @@ pub record IsDueLimit (s : Sending) (limits : List Known) (mark : Option ℕ) (v
 abbrev pub IsDue : Sending → (limits : List Known) → Known → Type 0
 IsDue s limits (StreamData k offset xs) = IsDueData s k offset xs
 IsDue s limits (StreamMoney k amount) = IsDueMoney s k amount
-IsDue s limits (StreamClose k code message) = IsDueClose s k code × (message ≡ [])
-IsDue s limits (StreamDataBlocked k limit) = IsDueDataBlocked s k limit
-IsDue s limits (ConnectionDataBlocked limit) = IsDueConnectionBlocked s limit
-IsDue s limits (StreamMoneyBlocked k limit total) = IsDueMoneyBlocked s k limit total
-IsDue s limits (ConnectionMaxData value) = IsDueLimit s limits s.marks.connection value (ConnectionMaxData value)
-IsDue s limits (StreamMaxData k value) = IsDueLimit s limits (slot s.marks.offsets k) value (StreamMaxData k value)
-IsDue s limits (StreamMaxMoney k value total) = IsDueLimit s limits (slot s.marks.money k) value (StreamMaxMoney k value total)
-IsDue s limits (ConnectionClose code message) = ⊥
-IsDue s limits (ConnectionNewAddress address) = ⊥
+IsDue s limits (CloseFrame (StreamClose k code message)) = IsDueClose s k code × (message ≡ [])
+IsDue s limits (BlockedFrame (StreamDataBlocked k limit)) = IsDueDataBlocked s k limit
+IsDue s limits (BlockedFrame (ConnectionDataBlocked limit)) = IsDueConnectionBlocked s limit
+IsDue s limits (BlockedFrame (StreamMoneyBlocked k limit total)) = IsDueMoneyBlocked s k limit total
+IsDue s limits (LimitFrame (ConnectionMaxData value)) = IsDueLimit s limits s.marks.connection value (LimitFrame (ConnectionMaxData value))
+IsDue s limits (LimitFrame (StreamMaxData k value)) = IsDueLimit s limits (slot s.marks.offsets k) value (LimitFrame (StreamMaxData k value))
+IsDue s limits (LimitFrame (StreamMaxMoney k value total)) = IsDueLimit s limits (slot s.marks.money k) value (LimitFrame (StreamMaxMoney k value total))
+IsDue s limits (CloseFrame (ConnectionClose code message)) = ⊥
+IsDue s limits (OtherFrame o) = ⊥

@@ -4,7 +4,7 @@ use Rattle.std.specs.Prelude.{◌≡◌, ℕ, ◌+◌, ◌-◌, ◌<◌, ◌≤�
 use Rattle.std.specs.List.{list_any, range_with_len}
 use Rattle.std.specs.declared.option.Option.{Option}
 use Rattle.std.specs.declared.option.Option.TheVariants.{None, Some}
-use Rattle.st_frames.specs.Frames.{Known, StreamClose, StreamMoney, StreamData}
+use Rattle.st_frames.specs.Frames.{Known, CloseFrame, StreamClose, StreamMoney, StreamData}
 use Rattle.st_sender.specs.Sending.{Outgoing, Load, Data, Sending, outgoing_at}
 use Rattle.st_sender.specs.Flights.{carries, flight_of, due_at, all_ends, highest_end, flying_money, due_money}
 use Rattle.st_sender.specs.Due.{IsDue, IsDueData}
@@ -41,7 +41,7 @@ all_free_money s = sum (map (λ k. free_money s k (outgoing_at s k)) (range_with
 abbrev pub is_work : Known → Bool
 is_work (StreamData k o xs) = true
 is_work (StreamMoney k n) = true
-is_work (StreamClose k code message) = true
+is_work (CloseFrame (StreamClose k code message)) = true
 is_work f = false
 
 -- a room that is large enough: 65 payments, a close of each stream, 129 limits, and a data frame of 16,000 bytes

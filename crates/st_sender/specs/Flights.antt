@@ -5,7 +5,7 @@ use Rattle.std.specs.declared.option.Option.{Option}
 use Rattle.std.specs.declared.option.Option.TheVariants.{None, Some}
 use Rattle.std.specs.FinMap.{get}
 use Rattle.st_oer.specs.Ratios.{Ratio, exchanged}
-use Rattle.st_frames.specs.Frames.{Known, ConnectionMaxData, StreamClose, StreamMaxMoney, StreamData, StreamMaxData}
+use Rattle.st_frames.specs.Frames.{Known, LimitFrame, ConnectionMaxData, CloseFrame, StreamClose, StreamMaxMoney, StreamData, StreamMaxData}
 use Rattle.st_frames.specs.Told.{money_of}
 use Rattle.st_sender.specs.Sending.{Outgoing, Load, SentFrame, Data, Whole, Flight, Sending, outgoing_at}
 
@@ -37,7 +37,7 @@ carries k at (Whole f) = false
 
 -- a frame that closes a stream with a code
 abbrev pub is_close : (stream code : ℕ) → Known → Bool
-is_close k c (StreamClose stream code message) = nat_eq stream k && nat_eq code c
+is_close k c (CloseFrame (StreamClose stream code message)) = nat_eq stream k && nat_eq code c
 is_close k c f = false
 
 abbrev pub closes : (stream code : ℕ) → SentFrame → Bool
@@ -46,9 +46,9 @@ closes k c (Whole f) = is_close k c f
 
 -- a frame that reports the same limit, whatever its value
 abbrev pub same_limit : Known → Known → Bool
-same_limit (ConnectionMaxData m) (ConnectionMaxData n) = true
-same_limit (StreamMaxData k m) (StreamMaxData l n) = nat_eq k l
-same_limit (StreamMaxMoney k m t) (StreamMaxMoney l n u) = nat_eq k l
+same_limit (LimitFrame (ConnectionMaxData m)) (LimitFrame (ConnectionMaxData n)) = true
+same_limit (LimitFrame (StreamMaxData k m)) (LimitFrame (StreamMaxData l n)) = nat_eq k l
+same_limit (LimitFrame (StreamMaxMoney k m t)) (LimitFrame (StreamMaxMoney l n u)) = nat_eq k l
 same_limit f g = false
 
 abbrev pub tells : Known → SentFrame → Bool

@@ -6,7 +6,7 @@ use Rattle.std.specs.declared.option.Option.{Option}
 use Rattle.std.specs.declared.option.Option.TheVariants.{None, Some}
 use Rattle.st_oer.specs.Ratios.{Ratio}
 use Rattle.st_streams.specs.Slots.{Slots, slot}
-use Rattle.st_frames.specs.Frames.{Known, ConnectionMaxData, ConnectionDataBlocked, StreamMaxMoney, StreamMoneyBlocked, StreamMaxData, StreamDataBlocked}
+use Rattle.st_frames.specs.Frames.{Known, LimitFrame, ConnectionMaxData, BlockedFrame, ConnectionDataBlocked, StreamMaxMoney, StreamMoneyBlocked, StreamMaxData, StreamDataBlocked}
 use Rattle.st_frames.specs.Written.{packet_length}
 use Rattle.st_sender.specs.declared.bounds.Bounds.{Bounds}
 use Rattle.st_sender.specs.declared.notice.Notice.{Notice}
@@ -30,7 +30,7 @@ pub record IsDataBlocked (b : Bounds) (k : ℕ) (l : SendStream) (limit : ℕ) :
   pub told : limit ≡ l.out.told
   pub first : was_blocked l.out.blocked limit ≡ false
   pub waits : (o byte : ℕ) × (due_in l o ≡ Some byte) × (limit ≤ o)
-  pub short : IsShort b (StreamDataBlocked k limit)
+  pub short : IsShort b (BlockedFrame (StreamDataBlocked k limit))
 
 -- money of a stream waits beyond the peer's receive max
 pub record IsMoneyBlocked (r : Ratio) (flights : List Flight) (b : Bounds) (k : ℕ) (l : SendStream) (limit total : ℕ) : Type 0 where
@@ -39,12 +39,12 @@ pub record IsMoneyBlocked (r : Ratio) (flights : List Flight) (b : Bounds) (k : 
   pub total_is : total ≡ l.out.fulfilled
   pub first : was_blocked l.out.blocked_money limit ≡ false
   pub waits : limit - received < room_for r (open_money flights k l.out)
-  pub short : IsShort b (StreamMoneyBlocked k limit total)
+  pub short : IsShort b (BlockedFrame (StreamMoneyBlocked k limit total))
 
 -- a Blocked of a stream goes
 abbrev pub IsBlocked : List Flight → Ratio → Bounds → (k : ℕ) → SendStream → Known → Type 0
-IsBlocked flights r b k l (StreamDataBlocked j limit) = (j ≡ k) × IsDataBlocked b k l limit
-IsBlocked flights r b k l (StreamMoneyBlocked j limit total) = (j ≡ k) × IsMoneyBlocked r flights b k l limit total
+IsBlocked flights r b k l (BlockedFrame (StreamDataBlocked j limit)) = (j ≡ k) × IsDataBlocked b k l limit
+IsBlocked flights r b k l (BlockedFrame (StreamMoneyBlocked j limit total)) = (j ≡ k) × IsMoneyBlocked r flights b k l limit total
 IsBlocked flights r b k l f = ⊥
 
 pub record IsBlockedAt (lanes : Slots SendStream) (flights : List Flight) (r : Ratio) (b : Bounds) (f : Known) : Type 0 where
@@ -78,14 +78,12 @@ NoneHeld lanes flights spare count = (k : ℕ) (l : SendStream) → k < count �
 pub record IsConnectionBlocked (lanes : Slots SendStream) (flights : List Flight) (told : ℕ) (highest : Option ℕ) (b : Bounds) : Type 0 where
   pub first : was_blocked highest told ≡ false
   pub waits : IsHeldAt lanes flights b.spare
-  pub short : IsShort b (ConnectionDataBlocked told)
+  pub short : IsShort b (BlockedFrame (ConnectionDataBlocked told))
 
 -- ---- limits of this end's
 
 abbrev pub is_limit : Known → Bool
-is_limit (ConnectionMaxData value) = true
-is_limit (StreamMaxData k value) = true
-is_limit (StreamMaxMoney k value total) = true
+is_limit (LimitFrame l) = true
 is_limit f = false
 
 -- a limit is above the mark
@@ -94,9 +92,9 @@ is_above None limit = false
 is_above (Some m) limit = nat_lt m limit
 
 abbrev pub is_marked : Marks → Known → Bool
-is_marked m (ConnectionMaxData value) = is_above m.connection value
-is_marked m (StreamMaxData k value) = is_above (slot m.offsets k) value
-is_marked m (StreamMaxMoney k value total) = is_above (slot m.money k) value
+is_marked m (LimitFrame (ConnectionMaxData value)) = is_above m.connection value
+is_marked m (LimitFrame (StreamMaxData k value)) = is_above (slot m.offsets k) value
+is_marked m (LimitFrame (StreamMaxMoney k value total)) = is_above (slot m.money k) value
 is_marked m f = false
 
 -- the frame of a limit goes
@@ -110,16 +108,16 @@ NoneAwaited m flights b limits = AllByRecursion (λ f. ¬ IsAwaited m flights b 
 
 -- the marks once a limit was marked at its value
 abbrev pub marked : Marks → Known → Marks
-marked m (ConnectionMaxData value) = record m { connection = Some value }
-marked m (StreamMaxData k value) = record m { offsets = slice_set m.offsets k (Some value) }
-marked m (StreamMaxMoney k value total) = record m { money = slice_set m.money k (Some value) }
+marked m (LimitFrame (ConnectionMaxData value)) = record m { connection = Some value }
+marked m (LimitFrame (StreamMaxData k value)) = record m { offsets = slice_set m.offsets k (Some value) }
+marked m (LimitFrame (StreamMaxMoney k value total)) = record m { money = slice_set m.money k (Some value) }
 marked m f = m
 
 -- and once a frame was fulfilled
 abbrev pub marks_acked : Marks → Known → Marks
-marks_acked m (ConnectionMaxData value) = record m { connection = mark_after m.connection value }
-marks_acked m (StreamMaxData k value) = record m { offsets = marks_after m.offsets k value }
-marks_acked m (StreamMaxMoney k value total) = record m { money = marks_after m.money k value }
+marks_acked m (LimitFrame (ConnectionMaxData value)) = record m { connection = mark_after m.connection value }
+marks_acked m (LimitFrame (StreamMaxData k value)) = record m { offsets = marks_after m.offsets k value }
+marks_acked m (LimitFrame (StreamMaxMoney k value total)) = record m { money = marks_after m.money k value }
 marks_acked m f = m
 
 abbrev pub marks_flown : Marks → SentFrame → Marks
@@ -132,7 +130,7 @@ all_marks_flown m (f ∷ fs) = all_marks_flown (marks_flown m f) fs
 
 -- the connection's highest limit for which a Blocked was fulfilled, once a frame was
 abbrev pub highest_acked : Option ℕ → Known → Option ℕ
-highest_acked highest (ConnectionDataBlocked limit) = higher highest limit
+highest_acked highest (BlockedFrame (ConnectionDataBlocked limit)) = higher highest limit
 highest_acked highest f = highest
 
 abbrev pub highest_flown : Option ℕ → SentFrame → Option ℕ

@@ -2,16 +2,14 @@
 -- waits for the bytes of streams.
 use Rattle.std.specs.Prelude.{◌≡◌, ℕ, Bool, true, false, List, [], ◌∷◌}
 use Rattle.std.specs.List.{list_any, Contains}
-use Rattle.st_frames.specs.Frames.{Known, ConnectionDataBlocked, StreamMoneyBlocked, StreamDataBlocked}
+use Rattle.st_frames.specs.Frames.{Known, BlockedFrame}
 use Rattle.st_sender.specs.Sending.{Load, Sending}
 use Rattle.st_sender.specs.Flights.{is_close, same_limit}
 use Rattle.st_sender.specs.Due.{IsDue, IsDueClose}
 use Rattle.st_sender.specs.Noticed.{is_limit}
 
 abbrev pub is_blocked : Known → Bool
-is_blocked (ConnectionDataBlocked limit) = true
-is_blocked (StreamDataBlocked k limit) = true
-is_blocked (StreamMoneyBlocked k limit total) = true
+is_blocked (BlockedFrame b) = true
 is_blocked f = false
 
 -- each due close and each due limit of this end's own is in the packet, and a Blocked frame is in a packet of its own

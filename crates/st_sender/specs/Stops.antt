@@ -3,7 +3,7 @@ use Rattle.std.specs.Prelude.{ℕ, List, [], ◌∷◌}
 use Rattle.std.specs.Option.{option_or}
 use Rattle.std.specs.declared.option.Option.{Option}
 use Rattle.std.specs.declared.option.Option.TheVariants.{None, Some}
-use Rattle.st_frames.specs.Frames.{Known, ConnectionDataBlocked, StreamMoneyBlocked, StreamDataBlocked}
+use Rattle.st_frames.specs.Frames.{Known, BlockedFrame, ConnectionDataBlocked, StreamMoneyBlocked, StreamDataBlocked}
 use Rattle.st_sender.specs.declared.notice.Blocked.{Blocked}
 use Rattle.st_sender.specs.declared.notice.Blocked.TheVariants as limits
 use Rattle.st_sender.specs.Sending.{SentFrame, Data, Whole, Flight}
@@ -11,9 +11,9 @@ use Rattle.st_sender.specs.Flights.{flight_at}
 
 -- what a frame says of a limit of the peer
 abbrev pub stops_at : Known → Option Blocked
-stops_at (ConnectionDataBlocked limit) = Some (limits.Connection limit)
-stops_at (StreamDataBlocked k limit) = Some (limits.Data k limit)
-stops_at (StreamMoneyBlocked k limit total) = Some (limits.Money k limit total)
+stops_at (BlockedFrame (ConnectionDataBlocked limit)) = Some (limits.Connection limit)
+stops_at (BlockedFrame (StreamDataBlocked k limit)) = Some (limits.Data k limit)
+stops_at (BlockedFrame (StreamMoneyBlocked k limit total)) = Some (limits.Money k limit total)
 stops_at f = None
 
 abbrev pub flown_stops_at : SentFrame → Option Blocked

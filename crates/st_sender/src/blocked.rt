@@ -1,7 +1,7 @@
 //! The Blocked frames: a limit of the peer stops this end (RFC 0029, section 5.3).
 
 ghost use Rattle.std.specs.Prelude.{◌≡◌, true, false, ◌<◌, ◌^◌, length, MatchOption};
-ghost use Rattle.st_frames.specs.Frames.{ConnectionDataBlocked};
+ghost use Rattle.st_frames.specs.Frames.{BlockedFrame, ConnectionDataBlocked};
 ghost use Rattle.st_sender.specs.Due as due;
 ghost use Rattle.st_sender.specs.Shown.{telling};
 ghost use Rattle.st_sender.specs.Noticed.{IsBlockedAt, NoneBlocked, IsHeldAt, NoneHeld, IsConnectionBlocked};
@@ -80,7 +80,7 @@ pub fn connection_blocked<A: Allocator + Copy>(
 ) -> Option<Notice>
     requires small { bounds.spare < 2 ^ 64 }
     requires streams { length streams.now ≡ 65 }
-    ensures { MatchOption result (¬ IsConnectionBlocked streams.now flights.now told highest bounds) (λ n. (telling n ≡ ConnectionDataBlocked told) × IsConnectionBlocked streams.now flights.now told highest bounds) }
+    ensures { MatchOption result (¬ IsConnectionBlocked streams.now flights.now told highest bounds) (λ n. (telling n ≡ BlockedFrame (ConnectionDataBlocked told)) × IsConnectionBlocked streams.now flights.now told highest bounds) }
 {
     let notice = Notice::ConnectionDataBlocked { max_offset: told };
     if was_blocked(highest, told) {

@@ -7,7 +7,7 @@ use Rattle.std.proofs.lemmas.List.FromFn.{length-range_with_len}
 use Rattle.std.proofs.lemmas.List.Sums.{sum_by-cons}
 use Rattle.std.specs.FinSet as fset
 use Rattle.std.proofs.lemmas.Bool.Decides.{nat_tests}
-use Rattle.st_frames.specs.Frames.{Known, ConnectionClose, ConnectionNewAddress, ConnectionMaxData, ConnectionDataBlocked, StreamClose, StreamMoney, StreamMaxMoney, StreamMoneyBlocked, StreamData, StreamMaxData, StreamDataBlocked, Packet, frames_of}
+use Rattle.st_frames.specs.Frames.{Known, CloseFrame, ConnectionClose, OtherFrame, LimitFrame, BlockedFrame, StreamClose, StreamMoney, StreamData, Packet, frames_of}
 use Rattle.st_frames.specs.Told.{shares, money_in}
 use Rattle.st_streams.specs.Slots.{Slots, slot, with_slot}
 use Rattle.st_receiver.specs.Streams.{Receiving, Incoming, incoming_at, with_incoming, credited_of}
@@ -145,15 +145,11 @@ keeps_with r k x e = record { credit = refl; fulfilled = refl; width = length-se
 frame_keeps : (r : Receiving) (f : Known) → Keeps r (after_frame r f)
 frame_keeps r (StreamData k o xs) = keeps_with r k (with_data o xs (incoming_at r k)) refl
 frame_keeps r (StreamMoney k n) = keeps_with r k (incoming_at r k) refl
-frame_keeps r (StreamClose k code message) = keeps_with r k (incoming_at r k) refl
-frame_keeps r (ConnectionClose code message) = keeps_same r
-frame_keeps r (ConnectionNewAddress address) = keeps_same r
-frame_keeps r (ConnectionMaxData n) = keeps_same r
-frame_keeps r (ConnectionDataBlocked n) = keeps_same r
-frame_keeps r (StreamMaxMoney k m t) = keeps_same r
-frame_keeps r (StreamMoneyBlocked k m t) = keeps_same r
-frame_keeps r (StreamMaxData k n) = keeps_same r
-frame_keeps r (StreamDataBlocked k n) = keeps_same r
+frame_keeps r (CloseFrame (StreamClose k code message)) = keeps_with r k (incoming_at r k) refl
+frame_keeps r (CloseFrame (ConnectionClose code message)) = keeps_same r
+frame_keeps r (OtherFrame o) = keeps_same r
+frame_keeps r (LimitFrame l) = keeps_same r
+frame_keeps r (BlockedFrame b) = keeps_same r
 
 pub frames_keep : (fs : List Known) (r : Receiving) → Keeps r (after_frames r fs)
 unfolding after_frames
@@ -161,17 +157,13 @@ frames_keep [] r = keeps_same r
 frames_keep (f ∷ fs) r = keeps_join r (after_frame r f) (after_frames (after_frame r f) fs) (frame_keeps r f) (frames_keep fs (after_frame r f))
 
 close_keeps : (r : Receiving) (f : Known) → Keeps r (after_close r f)
-close_keeps r (StreamClose k code message) = keeps_with r k (with_close code (incoming_at r k)) refl
+close_keeps r (CloseFrame (StreamClose k code message)) = keeps_with r k (with_close code (incoming_at r k)) refl
 close_keeps r (StreamData k o xs) = keeps_same r
 close_keeps r (StreamMoney k n) = keeps_same r
-close_keeps r (ConnectionClose code message) = keeps_same r
-close_keeps r (ConnectionNewAddress address) = keeps_same r
-close_keeps r (ConnectionMaxData n) = keeps_same r
-close_keeps r (ConnectionDataBlocked n) = keeps_same r
-close_keeps r (StreamMaxMoney k m t) = keeps_same r
-close_keeps r (StreamMoneyBlocked k m t) = keeps_same r
-close_keeps r (StreamMaxData k n) = keeps_same r
-close_keeps r (StreamDataBlocked k n) = keeps_same r
+close_keeps r (CloseFrame (ConnectionClose code message)) = keeps_same r
+close_keeps r (OtherFrame o) = keeps_same r
+close_keeps r (LimitFrame l) = keeps_same r
+close_keeps r (BlockedFrame b) = keeps_same r
 
 closes_keep : (fs : List Known) (r : Receiving) → Keeps r (after_closes r fs)
 unfolding after_closes
@@ -183,17 +175,13 @@ abort_credit code None = refl
 abort_credit code (Some x) = refl
 
 end_keeps : (r : Receiving) (f : Known) → Keeps r (after_connection_close r f)
-end_keeps r (ConnectionClose code message) = record { credit = refl; fulfilled = refl; width = length-map r.streams (with_abort code); total = credits_map (with_abort code) (abort_credit code) r.streams }
-end_keeps r (StreamClose k code message) = keeps_same r
+end_keeps r (CloseFrame (ConnectionClose code message)) = record { credit = refl; fulfilled = refl; width = length-map r.streams (with_abort code); total = credits_map (with_abort code) (abort_credit code) r.streams }
+end_keeps r (CloseFrame (StreamClose k code message)) = keeps_same r
 end_keeps r (StreamData k o xs) = keeps_same r
 end_keeps r (StreamMoney k n) = keeps_same r
-end_keeps r (ConnectionNewAddress address) = keeps_same r
-end_keeps r (ConnectionMaxData n) = keeps_same r
-end_keeps r (ConnectionDataBlocked n) = keeps_same r
-end_keeps r (StreamMaxMoney k m t) = keeps_same r
-end_keeps r (StreamMoneyBlocked k m t) = keeps_same r
-end_keeps r (StreamMaxData k n) = keeps_same r
-end_keeps r (StreamDataBlocked k n) = keeps_same r
+end_keeps r (OtherFrame o) = keeps_same r
+end_keeps r (LimitFrame l) = keeps_same r
+end_keeps r (BlockedFrame b) = keeps_same r
 
 ends_keep : (fs : List Known) (r : Receiving) → Keeps r (after_connection_closes r fs)
 unfolding after_connection_closes

@@ -4,7 +4,7 @@ use Rattle.std.specs.List.{AllByRecursion}
 use Rattle.std.specs.Ordering.{nat_cmp}
 use Rattle.std.specs.FinMap as fmap
 use Rattle.std.proofs.lemmas.Bool.{cases_eq}
-use Rattle.st_frames.specs.Frames.{Known, ConnectionClose, ConnectionNewAddress, ConnectionMaxData, ConnectionDataBlocked, StreamClose, StreamMoney, StreamMaxMoney, StreamMoneyBlocked, StreamData, StreamMaxData, StreamDataBlocked, Packet, frames_of}
+use Rattle.st_frames.specs.Frames.{Known, CloseFrame, ConnectionClose, OtherFrame, LimitFrame, BlockedFrame, StreamClose, StreamMoney, StreamData, Packet, frames_of}
 use Rattle.st_frames.specs.Told.{shares}
 use Rattle.st_streams.specs.Slots.{Slots, slot}
 use Rattle.st_reassembly.specs.Held.{Held, is_wanted, with_byte, after_insert, after_read, is_over}
@@ -149,15 +149,11 @@ recv_open w r s k fine = recv-with w r s k (incoming_at s k) fine (fine k)
 recv_frame : (w r : ℕ → List ℕ) (s : Receiving) (f : Known) → RecvFine w r s → FrameFine w f → RecvFine w r (after_frame s f)
 recv_frame w r s (StreamData k o xs) fine within = recv_data w r s k o xs fine within
 recv_frame w r s (StreamMoney k n) fine within = recv_open w r s k fine
-recv_frame w r s (StreamClose k code message) fine within = recv_open w r s k fine
-recv_frame w r s (ConnectionClose code message) fine within = fine
-recv_frame w r s (ConnectionNewAddress address) fine within = fine
-recv_frame w r s (ConnectionMaxData n) fine within = fine
-recv_frame w r s (ConnectionDataBlocked n) fine within = fine
-recv_frame w r s (StreamMaxMoney k m t) fine within = fine
-recv_frame w r s (StreamMoneyBlocked k m t) fine within = fine
-recv_frame w r s (StreamMaxData k n) fine within = fine
-recv_frame w r s (StreamDataBlocked k n) fine within = fine
+recv_frame w r s (CloseFrame (StreamClose k code message)) fine within = recv_open w r s k fine
+recv_frame w r s (CloseFrame (ConnectionClose code message)) fine within = fine
+recv_frame w r s (OtherFrame o) fine within = fine
+recv_frame w r s (LimitFrame l) fine within = fine
+recv_frame w r s (BlockedFrame b) fine within = fine
 
 recv_frames : (w r : ℕ → List ℕ) (fs : List Known) (s : Receiving) → RecvFine w r s → FramesFine w fs → RecvFine w r (after_frames s fs)
 unfolding after_frames
@@ -192,18 +188,14 @@ close_fine true w r h code fine = same_read w r h (after_finish h) fine (held-fi
 close_fine false w r h code fine = same_read w r h (after_abort code h) fine (held-abort w h code fine.held) (read-abort h code)
 
 recv_close : (w r : ℕ → List ℕ) (s : Receiving) (f : Known) → RecvFine w r s → RecvFine w r (after_close s f)
-recv_close w r s (StreamClose k code message) fine =
+recv_close w r s (CloseFrame (StreamClose k code message)) fine =
     recv-with w r s k (with_close code (incoming_at s k)) fine (close_fine (nat_eq code 1) (w k) (r k) (incoming_at s k).held code (fine k))
 recv_close w r s (StreamData k o xs) fine = fine
 recv_close w r s (StreamMoney k n) fine = fine
-recv_close w r s (ConnectionClose code message) fine = fine
-recv_close w r s (ConnectionNewAddress address) fine = fine
-recv_close w r s (ConnectionMaxData n) fine = fine
-recv_close w r s (ConnectionDataBlocked n) fine = fine
-recv_close w r s (StreamMaxMoney k m t) fine = fine
-recv_close w r s (StreamMoneyBlocked k m t) fine = fine
-recv_close w r s (StreamMaxData k n) fine = fine
-recv_close w r s (StreamDataBlocked k n) fine = fine
+recv_close w r s (CloseFrame (ConnectionClose code message)) fine = fine
+recv_close w r s (OtherFrame o) fine = fine
+recv_close w r s (LimitFrame l) fine = fine
+recv_close w r s (BlockedFrame b) fine = fine
 
 recv_closes : (w r : ℕ → List ℕ) (fs : List Known) (s : Receiving) → RecvFine w r s → RecvFine w r (after_closes s fs)
 unfolding after_closes
@@ -215,20 +207,16 @@ abort_slot w r d code None fine = fine
 abort_slot w r d code (Some x) fine = same_read w r x.held (after_abort code x.held) fine (held-abort w x.held code fine.held) (read-abort x.held code)
 
 recv_ended : (w r : ℕ → List ℕ) (s : Receiving) (f : Known) → RecvFine w r s → RecvFine w r (after_connection_close s f)
-recv_ended w r s (ConnectionClose code message) fine =
+recv_ended w r s (CloseFrame (ConnectionClose code message)) fine =
     λ k.
     let P : Option Incoming → Type 0 = λ o. StreamFine (w k) (r k) (incoming_or (fresh_at s k) o).held in
     subst P (sym (slot_map (with_abort code) refl s.streams k)) (abort_slot (w k) (r k) (fresh_at s k) code (slot s.streams k) (fine k))
-recv_ended w r s (StreamClose k code message) fine = fine
+recv_ended w r s (CloseFrame (StreamClose k code message)) fine = fine
 recv_ended w r s (StreamData k o xs) fine = fine
 recv_ended w r s (StreamMoney k n) fine = fine
-recv_ended w r s (ConnectionNewAddress address) fine = fine
-recv_ended w r s (ConnectionMaxData n) fine = fine
-recv_ended w r s (ConnectionDataBlocked n) fine = fine
-recv_ended w r s (StreamMaxMoney k m t) fine = fine
-recv_ended w r s (StreamMoneyBlocked k m t) fine = fine
-recv_ended w r s (StreamMaxData k n) fine = fine
-recv_ended w r s (StreamDataBlocked k n) fine = fine
+recv_ended w r s (OtherFrame o) fine = fine
+recv_ended w r s (LimitFrame l) fine = fine
+recv_ended w r s (BlockedFrame b) fine = fine
 
 recv_all_ended : (w r : ℕ → List ℕ) (fs : List Known) (s : Receiving) → RecvFine w r s → RecvFine w r (after_connection_closes s fs)
 unfolding after_connection_closes

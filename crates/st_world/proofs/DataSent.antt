@@ -4,7 +4,7 @@ use Rattle.std.specs.List.{AllByRecursion}
 use Rattle.std.specs.Ordering.{nat_cmp}
 use Rattle.std.specs.FinMap as fmap
 use Rattle.std.proofs.lemmas.Option.{slice_get_within}
-use Rattle.st_frames.specs.Frames.{Known, ConnectionClose, ConnectionNewAddress, ConnectionMaxData, ConnectionDataBlocked, StreamClose, StreamMoney, StreamMaxMoney, StreamMoneyBlocked, StreamData, StreamMaxData, StreamDataBlocked}
+use Rattle.st_frames.specs.Frames.{Known, CloseFrame, ConnectionClose, OtherFrame, LimitFrame, ConnectionMaxData, BlockedFrame, ConnectionDataBlocked, StreamClose, StreamMoney, StreamMaxMoney, StreamMoneyBlocked, StreamData, StreamMaxData, StreamDataBlocked}
 use Rattle.st_reassembly.specs.Held.{Held, after_read}
 use Rattle.st_reassembly.specs.Run.{IsRun}
 use Rattle.st_sender.specs.Sending.{Sending, Outgoing, SentFrame, Data, Whole, outgoing_at, with_outgoing, changed_at, changed}
@@ -49,15 +49,13 @@ close_kept false w k x h = h
 whole_acked : (w : ℕ → List ℕ) (s : Sending) (f : Known) → SendFine w s → SendFine w (after_whole_acked s f)
 whole_acked w s (StreamData k o xs) fine = fine
 whole_acked w s (StreamMoney k n) fine = send-changed w s k _ (λ x h. h) fine
-whole_acked w s (StreamClose k code message) fine = send-changed w s k (acked_close code) (λ x h. close_kept (nat_eq code 1) w k x h) fine
-whole_acked w s (StreamDataBlocked k n) fine = send-changed w s k _ (λ x h. h) fine
-whole_acked w s (StreamMoneyBlocked k n t) fine = send-changed w s k _ (λ x h. h) fine
-whole_acked w s (ConnectionDataBlocked n) fine = fine
-whole_acked w s (ConnectionMaxData n) fine = fine
-whole_acked w s (StreamMaxData k n) fine = fine
-whole_acked w s (StreamMaxMoney k n t) fine = fine
-whole_acked w s (ConnectionClose code message) fine = fine
-whole_acked w s (ConnectionNewAddress address) fine = fine
+whole_acked w s (CloseFrame (StreamClose k code message)) fine = send-changed w s k (acked_close code) (λ x h. close_kept (nat_eq code 1) w k x h) fine
+whole_acked w s (BlockedFrame (StreamDataBlocked k n)) fine = send-changed w s k _ (λ x h. h) fine
+whole_acked w s (BlockedFrame (StreamMoneyBlocked k n t)) fine = send-changed w s k _ (λ x h. h) fine
+whole_acked w s (BlockedFrame (ConnectionDataBlocked n)) fine = fine
+whole_acked w s (LimitFrame l) fine = fine
+whole_acked w s (CloseFrame (ConnectionClose code message)) fine = fine
+whole_acked w s (OtherFrame o) fine = fine
 
 acked : (w : ℕ → List ℕ) (s : Sending) (f : SentFrame) → SendFine w s → SendFine w (after_acked s f)
 acked w s (Data k o n) fine = send-changed w s k (acked_data o n) (λ x h. (h.0, λ q b e. h.1 q b (got_retain x.unacked _ q b e))) fine
@@ -68,17 +66,14 @@ send-acked w [] s fine = fine
 send-acked w (f ∷ fs) s fine = send-acked w fs (after_acked s f) (acked w s f fine)
 
 told_fine : (w : ℕ → List ℕ) (s : Sending) (f : Known) → SendFine w s → SendFine w (after_told s f)
-told_fine w s (StreamMaxData k n) fine = send-changed w s k _ (λ x h. h) fine
-told_fine w s (StreamMaxMoney k n t) fine = send-changed w s k _ (λ x h. h) fine
-told_fine w s (ConnectionMaxData n) fine = fine
+told_fine w s (LimitFrame (StreamMaxData k n)) fine = send-changed w s k _ (λ x h. h) fine
+told_fine w s (LimitFrame (StreamMaxMoney k n t)) fine = send-changed w s k _ (λ x h. h) fine
+told_fine w s (LimitFrame (ConnectionMaxData n)) fine = fine
 told_fine w s (StreamData k o xs) fine = fine
 told_fine w s (StreamMoney k n) fine = fine
-told_fine w s (StreamClose k code message) fine = fine
-told_fine w s (StreamDataBlocked k n) fine = fine
-told_fine w s (StreamMoneyBlocked k n t) fine = fine
-told_fine w s (ConnectionDataBlocked n) fine = fine
-told_fine w s (ConnectionClose code message) fine = fine
-told_fine w s (ConnectionNewAddress address) fine = fine
+told_fine w s (CloseFrame c) fine = fine
+told_fine w s (BlockedFrame b) fine = fine
+told_fine w s (OtherFrame o) fine = fine
 
 pub send-told : (w : ℕ → List ℕ) (fs : List Known) (s : Sending) → SendFine w s → SendFine w (after_all_told s fs)
 send-told w [] s fine = fine
@@ -97,15 +92,10 @@ data_due w s k o xs fine due i b e =
 frame_due : (w : ℕ → List ℕ) (s : Sending) (limits : List Known) (f : Known) → SendFine w s → IsDue s limits f → FrameFine w f
 frame_due w s limits (StreamData k o xs) fine due = data_due w s k o xs fine due
 frame_due w s limits (StreamMoney k n) fine due = tt
-frame_due w s limits (StreamClose k code message) fine due = tt
-frame_due w s limits (StreamDataBlocked k n) fine due = tt
-frame_due w s limits (StreamMoneyBlocked k n t) fine due = tt
-frame_due w s limits (ConnectionDataBlocked n) fine due = tt
-frame_due w s limits (ConnectionMaxData n) fine due = tt
-frame_due w s limits (StreamMaxData k n) fine due = tt
-frame_due w s limits (StreamMaxMoney k n t) fine due = tt
-frame_due w s limits (ConnectionClose code message) fine due = tt
-frame_due w s limits (ConnectionNewAddress address) fine due = tt
+frame_due w s limits (CloseFrame c) fine due = tt
+frame_due w s limits (BlockedFrame b) fine due = tt
+frame_due w s limits (LimitFrame l) fine due = tt
+frame_due w s limits (OtherFrame o) fine due = tt
 
 pub frames_due : (w : ℕ → List ℕ) (s : Sending) (limits : List Known) (fs : List Known) → SendFine w s → AllByRecursion (IsDue s limits) fs → FramesFine w fs
 frames_due w s limits [] fine due = tt

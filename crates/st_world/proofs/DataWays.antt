@@ -3,7 +3,7 @@ use Rattle.std.proofs.Common.{◌≡◌, ◌≢◌, ℕ, ◌+◌, ◌<◌, Ok, L
 use Rattle.std.specs.Ordering.{nat_cmp}
 use Rattle.std.specs.FinMap as fmap
 use Rattle.std.proofs.lemmas.Bool.{cases_eq}
-use Rattle.st_frames.specs.Frames.{Known, ConnectionClose, ConnectionNewAddress, ConnectionMaxData, ConnectionDataBlocked, StreamClose, StreamMoney, StreamMaxMoney, StreamMoneyBlocked, StreamData, StreamMaxData, StreamDataBlocked, Packet, frames_of}
+use Rattle.st_frames.specs.Frames.{Known, CloseFrame, OtherFrame, LimitFrame, BlockedFrame, StreamMoney, StreamData, Packet, frames_of}
 use Rattle.st_keys.specs.Sealed.{opened}
 use Rattle.st_reassembly.specs.Held.{Held, after_read}
 use Rattle.st_reassembly.specs.Run.{IsRun}
@@ -57,15 +57,10 @@ data_grow v w k o xs grow fine i b e = grow k (o + i) b (fine i b e)
 frame_grow : (v w : ℕ → List ℕ) (f : Known) → Grows v w → FrameFine v f → FrameFine w f
 frame_grow v w (StreamData k o xs) grow fine = data_grow v w k o xs grow fine
 frame_grow v w (StreamMoney k n) grow fine = tt
-frame_grow v w (StreamClose k code message) grow fine = tt
-frame_grow v w (StreamDataBlocked k n) grow fine = tt
-frame_grow v w (StreamMoneyBlocked k n t) grow fine = tt
-frame_grow v w (ConnectionDataBlocked n) grow fine = tt
-frame_grow v w (ConnectionMaxData n) grow fine = tt
-frame_grow v w (StreamMaxData k n) grow fine = tt
-frame_grow v w (StreamMaxMoney k n t) grow fine = tt
-frame_grow v w (ConnectionClose code message) grow fine = tt
-frame_grow v w (ConnectionNewAddress address) grow fine = tt
+frame_grow v w (CloseFrame c) grow fine = tt
+frame_grow v w (BlockedFrame b) grow fine = tt
+frame_grow v w (LimitFrame l) grow fine = tt
+frame_grow v w (OtherFrame o) grow fine = tt
 
 frames_grow : (v w : ℕ → List ℕ) (fs : List Known) → Grows v w → FramesFine v fs → FramesFine w fs
 frames_grow v w [] grow fine = tt

@@ -3,7 +3,7 @@ use Rattle.std.proofs.Common.{◌≡◌, ℕ, ◌+◌, Result, Ok, Err, Bool, tr
 use Rattle.st_ilp.specs.Packets.{AnswerPacket, Fulfilled, Rejected}
 use Rattle.st_ilp.specs.Reading.{answer_at}
 use Rattle.st_ilp.specs.declared.error.IlpError.{IlpError}
-use Rattle.st_frames.specs.Frames.{Known, ConnectionClose, ConnectionNewAddress, ConnectionMaxData, ConnectionDataBlocked, StreamClose, StreamMoney, StreamMaxMoney, StreamMoneyBlocked, StreamData, StreamMaxData, StreamDataBlocked, Packet, frames_of}
+use Rattle.st_frames.specs.Frames.{Known, CloseFrame, ConnectionClose, OtherFrame, LimitFrame, ConnectionMaxData, BlockedFrame, ConnectionDataBlocked, StreamClose, StreamMoney, StreamMaxMoney, StreamMoneyBlocked, StreamData, StreamMaxData, StreamDataBlocked, Packet, frames_of}
 use Rattle.st_keys.specs.declared.error.KeyError.{KeyError}
 use Rattle.st_keys.specs.Keys.{fulfillment}
 use Rattle.st_keys.specs.Sealed.{opened}
@@ -46,15 +46,13 @@ flies_cond r false s t f g = g
 whole_flies : (r s : Sending) (f : Known) → Flies r s → Flies r (after_whole_acked s f)
 whole_flies r s (StreamData k o xs) h = h
 whole_flies r s (StreamMoney k n) h = changed_flies r s k _ (outgoing_at s k) h
-whole_flies r s (StreamClose k code message) h = changed_flies r s k _ (outgoing_at s k) h
-whole_flies r s (StreamDataBlocked k n) h = changed_flies r s k _ (outgoing_at s k) h
-whole_flies r s (StreamMoneyBlocked k n t) h = changed_flies r s k _ (outgoing_at s k) h
-whole_flies r s (ConnectionDataBlocked n) h = record { flights = h.flights; last = h.last; paid = h.paid }
-whole_flies r s (ConnectionMaxData n) h = record { flights = h.flights; last = h.last; paid = h.paid }
-whole_flies r s (StreamMaxData k n) h = record { flights = h.flights; last = h.last; paid = h.paid }
-whole_flies r s (StreamMaxMoney k n t) h = record { flights = h.flights; last = h.last; paid = h.paid }
-whole_flies r s (ConnectionClose code message) h = h
-whole_flies r s (ConnectionNewAddress address) h = h
+whole_flies r s (CloseFrame (StreamClose k code message)) h = changed_flies r s k _ (outgoing_at s k) h
+whole_flies r s (BlockedFrame (StreamDataBlocked k n)) h = changed_flies r s k _ (outgoing_at s k) h
+whole_flies r s (BlockedFrame (StreamMoneyBlocked k n t)) h = changed_flies r s k _ (outgoing_at s k) h
+whole_flies r s (BlockedFrame (ConnectionDataBlocked n)) h = record { flights = h.flights; last = h.last; paid = h.paid }
+whole_flies r s (LimitFrame l) h = record { flights = h.flights; last = h.last; paid = h.paid }
+whole_flies r s (CloseFrame (ConnectionClose code message)) h = h
+whole_flies r s (OtherFrame o) h = h
 
 acked_flies : (r s : Sending) (f : SentFrame) → Flies r s → Flies r (after_acked s f)
 acked_flies r s (Data k o n) h = changed_flies r s k _ (outgoing_at s k) h
@@ -67,15 +65,12 @@ all_acked_flies r (f ∷ fs) s h = all_acked_flies r fs (after_acked s f) (acked
 told_flies : (r s : Sending) (f : Known) → Flies r s → Flies r (after_told s f)
 told_flies r s (StreamData k o xs) h = h
 told_flies r s (StreamMoney k n) h = h
-told_flies r s (StreamClose k code message) h = h
-told_flies r s (StreamDataBlocked k n) h = h
-told_flies r s (StreamMoneyBlocked k n t) h = h
-told_flies r s (ConnectionDataBlocked n) h = h
-told_flies r s (ConnectionMaxData n) h = record { flights = h.flights; last = h.last; paid = h.paid }
-told_flies r s (StreamMaxData k n) h = changed_flies r s k _ (outgoing_at s k) h
-told_flies r s (StreamMaxMoney k n t) h = changed_flies r s k _ (outgoing_at s k) h
-told_flies r s (ConnectionClose code message) h = h
-told_flies r s (ConnectionNewAddress address) h = h
+told_flies r s (CloseFrame c) h = h
+told_flies r s (BlockedFrame b) h = h
+told_flies r s (LimitFrame (ConnectionMaxData n)) h = record { flights = h.flights; last = h.last; paid = h.paid }
+told_flies r s (LimitFrame (StreamMaxData k n)) h = changed_flies r s k _ (outgoing_at s k) h
+told_flies r s (LimitFrame (StreamMaxMoney k n t)) h = changed_flies r s k _ (outgoing_at s k) h
+told_flies r s (OtherFrame o) h = h
 
 all_told_flies : (r : Sending) (fs : List Known) (s : Sending) → Flies r s → Flies r (after_all_told s fs)
 all_told_flies r [] s h = h

@@ -5,7 +5,7 @@ use Rattle.std.specs.FinMap as fmap
 use Rattle.std.proofs.lemmas.Bool.Decides.{nat_tests}
 use Rattle.std.proofs.lemmas.Grind.{common_steps}
 use Rattle.std.proofs.lemmas.Option.{slice_get_within}
-use Rattle.st_frames.specs.Frames.{Known, ConnectionClose, ConnectionNewAddress, ConnectionMaxData, ConnectionDataBlocked, StreamClose, StreamMoney, StreamMaxMoney, StreamMoneyBlocked, StreamData, StreamMaxData, StreamDataBlocked, Packet, frames_of}
+use Rattle.st_frames.specs.Frames.{Known, CloseFrame, ConnectionClose, OtherFrame, ConnectionNewAddress, LimitFrame, ConnectionMaxData, BlockedFrame, ConnectionDataBlocked, StreamClose, StreamMoney, StreamMaxMoney, StreamMoneyBlocked, StreamData, StreamMaxData, StreamDataBlocked, Packet, frames_of}
 use Rattle.st_reassembly.specs.Held.{Held, after_insert, is_over}
 use Rattle.st_reassembly.specs.Closing.{past_all, after_finish, after_abort}
 use Rattle.st_sender.specs.Sending.{Sending, Outgoing, SentFrame, Data, Whole, outgoing_at}
@@ -64,8 +64,8 @@ rise_join r s t f g k = (let a : (incoming_at r k).highest ≤ (incoming_at s k)
 
 -- frames of a packet that was sent, and those of one that was accepted
 abbrev pub FrameSound : (ℕ → StreamLog) → Receiving → Known → Type 0
-FrameSound l r (StreamClose k code message) = (code ≡ 1 → ((l k).clean ≡ true) × (length (l k).written ≤ (incoming_at r k).highest)) × (code ≢ 1 → (l k).aborted ≡ true)
-FrameSound l r (ConnectionClose code message) = ⊥
+FrameSound l r (CloseFrame (StreamClose k code message)) = (code ≡ 1 → ((l k).clean ≡ true) × (length (l k).written ≤ (incoming_at r k).highest)) × (code ≢ 1 → (l k).aborted ≡ true)
+FrameSound l r (CloseFrame (ConnectionClose code message)) = ⊥
 FrameSound l r _ = Unit {0}
 
 abbrev pub FramesSound : (ℕ → StreamLog) → Receiving → List Known → Type 0
@@ -84,15 +84,10 @@ data_rise r t k o xs rise h = elim h [ inl e ↦ inl ((rise k).1 e) | inr f ↦ 
 frame_rise : (r t : Receiving) (f : Known) → Rise r t → FrameTaken r f → FrameTaken t f
 frame_rise r t (StreamData k o xs) rise h = data_rise r t k o xs rise h
 frame_rise r t (StreamMoney k n) rise h = tt
-frame_rise r t (StreamClose k code message) rise h = tt
-frame_rise r t (StreamDataBlocked k n) rise h = tt
-frame_rise r t (StreamMoneyBlocked k n u) rise h = tt
-frame_rise r t (ConnectionDataBlocked n) rise h = tt
-frame_rise r t (ConnectionMaxData n) rise h = tt
-frame_rise r t (StreamMaxData k n) rise h = tt
-frame_rise r t (StreamMaxMoney k n u) rise h = tt
-frame_rise r t (ConnectionClose code message) rise h = tt
-frame_rise r t (ConnectionNewAddress address) rise h = tt
+frame_rise r t (CloseFrame c) rise h = tt
+frame_rise r t (BlockedFrame b) rise h = tt
+frame_rise r t (LimitFrame l) rise h = tt
+frame_rise r t (OtherFrame o) rise h = tt
 
 pub taken_rise : (r t : Receiving) (fs : List Known) → Rise r t → FramesTaken r fs → FramesTaken t fs
 taken_rise r t [] rise h = tt
@@ -109,15 +104,10 @@ AllFlownTaken r fs = AllByRecursion (FlownTaken r) fs
 frame_flown : (r : Receiving) (f : Known) → FrameTaken r f → FlownTaken r (flown f)
 frame_flown r (StreamData k o xs) h = h
 frame_flown r (StreamMoney k n) h = tt
-frame_flown r (StreamClose k code message) h = tt
-frame_flown r (StreamDataBlocked k n) h = tt
-frame_flown r (StreamMoneyBlocked k n u) h = tt
-frame_flown r (ConnectionDataBlocked n) h = tt
-frame_flown r (ConnectionMaxData n) h = tt
-frame_flown r (StreamMaxData k n) h = tt
-frame_flown r (StreamMaxMoney k n u) h = tt
-frame_flown r (ConnectionClose code message) h = tt
-frame_flown r (ConnectionNewAddress address) h = tt
+frame_flown r (CloseFrame c) h = tt
+frame_flown r (BlockedFrame b) h = tt
+frame_flown r (LimitFrame l) h = tt
+frame_flown r (OtherFrame o) h = tt
 
 pub taken_flown : (r : Receiving) (fs : List Known) → FramesTaken r fs → AllFlownTaken r (map flown fs)
 taken_flown r [] h = tt
@@ -129,7 +119,7 @@ pub record Onward (l m : ℕ → StreamLog) (r t : Receiving) : Type 0 where
   pub aborted : (k : ℕ) → (l k).aborted ≡ true → (m k).aborted ≡ true
   pub rise : Rise r t
 
-close_onward : (l m : ℕ → StreamLog) (r t : Receiving) (k code : ℕ) (message : List ℕ) → Onward l m r t → FrameSound l r (StreamClose k code message) → FrameSound m t (StreamClose k code message)
+close_onward : (l m : ℕ → StreamLog) (r t : Receiving) (k code : ℕ) (message : List ℕ) → Onward l m r t → FrameSound l r (CloseFrame (StreamClose k code message)) → FrameSound m t (CloseFrame (StreamClose k code message))
 close_onward l m r t k code message o h = (
   λ e. let x = h.0 e in let y = o.clean k x.0 in (y.0, let a : (incoming_at r k).highest ≤ (incoming_at t k).highest = (o.rise k).0 in let b : length (l k).written ≤ (incoming_at r k).highest = x.1 in let c : length (m k).written ≡ length (l k).written = ap (λ z. length z) y.1 in omega arith),
   λ n. o.aborted k (h.1 n),
@@ -138,15 +128,11 @@ close_onward l m r t k code message o h = (
 frame_onward : (l m : ℕ → StreamLog) (r t : Receiving) (f : Known) → Onward l m r t → FrameSound l r f → FrameSound m t f
 frame_onward l m r t (StreamData k a xs) o h = tt
 frame_onward l m r t (StreamMoney k n) o h = tt
-frame_onward l m r t (StreamClose k code message) o h = close_onward l m r t k code message o h
-frame_onward l m r t (StreamDataBlocked k n) o h = tt
-frame_onward l m r t (StreamMoneyBlocked k n u) o h = tt
-frame_onward l m r t (ConnectionDataBlocked n) o h = tt
-frame_onward l m r t (ConnectionMaxData n) o h = tt
-frame_onward l m r t (StreamMaxData k n) o h = tt
-frame_onward l m r t (StreamMaxMoney k n u) o h = tt
-frame_onward l m r t (ConnectionClose code message) o h = absurd h
-frame_onward l m r t (ConnectionNewAddress address) o h = tt
+frame_onward l m r t (CloseFrame (StreamClose k code message)) o h = close_onward l m r t k code message o h
+frame_onward l m r t (BlockedFrame b) o h = tt
+frame_onward l m r t (LimitFrame limit) o h = tt
+frame_onward l m r t (CloseFrame (ConnectionClose code message)) o h = absurd h
+frame_onward l m r t (OtherFrame other) o h = tt
 
 pub sound_onward : (l m : ℕ → StreamLog) (r t : Receiving) (fs : List Known) → Onward l m r t → FramesSound l r fs → FramesSound m t fs
 sound_onward l m r t [] o h = tt
@@ -297,15 +283,15 @@ frame_good l r (StreamData k o xs) wide none h w =
     let small : k < 65 = named_small r k (or_none (stream_fault r k) (data_fault r k o xs) none).0 in
     data_good l r k o xs (rw wide small) h w
 frame_good l r (StreamMoney k n) wide none h w = open_good l r k (StreamMoney k n) tt h
-frame_good l r (StreamClose k code message) wide none h w = open_good l r k (StreamClose k code message) tt h
-frame_good l r (StreamDataBlocked k n) wide none h w = same_good l r (StreamDataBlocked k n) tt h
-frame_good l r (StreamMoneyBlocked k n u) wide none h w = same_good l r (StreamMoneyBlocked k n u) tt h
-frame_good l r (ConnectionDataBlocked n) wide none h w = same_good l r (ConnectionDataBlocked n) tt h
-frame_good l r (ConnectionMaxData n) wide none h w = same_good l r (ConnectionMaxData n) tt h
-frame_good l r (StreamMaxData k n) wide none h w = same_good l r (StreamMaxData k n) tt h
-frame_good l r (StreamMaxMoney k n u) wide none h w = same_good l r (StreamMaxMoney k n u) tt h
-frame_good l r (ConnectionClose code message) wide none h w = same_good l r (ConnectionClose code message) tt h
-frame_good l r (ConnectionNewAddress address) wide none h w = same_good l r (ConnectionNewAddress address) tt h
+frame_good l r (CloseFrame (StreamClose k code message)) wide none h w = open_good l r k (CloseFrame (StreamClose k code message)) tt h
+frame_good l r (BlockedFrame (StreamDataBlocked k n)) wide none h w = same_good l r (BlockedFrame (StreamDataBlocked k n)) tt h
+frame_good l r (BlockedFrame (StreamMoneyBlocked k n u)) wide none h w = same_good l r (BlockedFrame (StreamMoneyBlocked k n u)) tt h
+frame_good l r (BlockedFrame (ConnectionDataBlocked n)) wide none h w = same_good l r (BlockedFrame (ConnectionDataBlocked n)) tt h
+frame_good l r (LimitFrame (ConnectionMaxData n)) wide none h w = same_good l r (LimitFrame (ConnectionMaxData n)) tt h
+frame_good l r (LimitFrame (StreamMaxData k n)) wide none h w = same_good l r (LimitFrame (StreamMaxData k n)) tt h
+frame_good l r (LimitFrame (StreamMaxMoney k n u)) wide none h w = same_good l r (LimitFrame (StreamMaxMoney k n u)) tt h
+frame_good l r (CloseFrame (ConnectionClose code message)) wide none h w = same_good l r (CloseFrame (ConnectionClose code message)) tt h
+frame_good l r (OtherFrame (ConnectionNewAddress address)) wide none h w = same_good l r (OtherFrame (ConnectionNewAddress address)) tt h
 
 frames_good : (l : ℕ → StreamLog) (fs : List Known) (r : Receiving) → length r.streams ≡ 65 → frames_fault r fs ≡ None → RecvWhole l r → FramesFine (λ k. (l k).written) fs → Good l r fs (after_frames r fs)
 unfolding frames_fault after_frames
@@ -356,7 +342,7 @@ close_in : (b : Bool) (l : StreamLog) (x : Incoming) (code : ℕ) → nat_eq cod
 close_in true l x code e c a h = let k = c (grind (arith)) in (finish_in (is_over x.held) l x refl k.0 k.1 h, finish_rise (is_over x.held) x)
 close_in false l x code e c a h = (abort_in (is_over x.held) l x code (a (grind (arith))) h, abort_rise (is_over x.held) x code)
 
-close_stream : (l : ℕ → StreamLog) (r : Receiving) (k code : ℕ) (message : List ℕ) → RecvWhole l r → FrameSound l r (StreamClose k code message) → RecvWhole l (after_close r (StreamClose k code message)) × Rise r (after_close r (StreamClose k code message))
+close_stream : (l : ℕ → StreamLog) (r : Receiving) (k code : ℕ) (message : List ℕ) → RecvWhole l r → FrameSound l r (CloseFrame (StreamClose k code message)) → RecvWhole l (after_close r (CloseFrame (StreamClose k code message))) × Rise r (after_close r (CloseFrame (StreamClose k code message)))
 close_stream l r k code message h f =
     let c = close_in (nat_eq code 1) (l k) (incoming_at r k) code refl f.0 f.1 (h k) in
     (in-with l r k (with_close code (incoming_at r k)) h c.0, rise-with r k (with_close code (incoming_at r k)) c.1)
@@ -364,15 +350,11 @@ close_stream l r k code message h f =
 close_frame : (l : ℕ → StreamLog) (r : Receiving) (f : Known) → RecvWhole l r → FrameSound l r f → RecvWhole l (after_close r f) × Rise r (after_close r f)
 close_frame l r (StreamData k o xs) h s = (h, rise_same r)
 close_frame l r (StreamMoney k n) h s = (h, rise_same r)
-close_frame l r (StreamClose k code message) h s = close_stream l r k code message h s
-close_frame l r (StreamDataBlocked k n) h s = (h, rise_same r)
-close_frame l r (StreamMoneyBlocked k n u) h s = (h, rise_same r)
-close_frame l r (ConnectionDataBlocked n) h s = (h, rise_same r)
-close_frame l r (ConnectionMaxData n) h s = (h, rise_same r)
-close_frame l r (StreamMaxData k n) h s = (h, rise_same r)
-close_frame l r (StreamMaxMoney k n u) h s = (h, rise_same r)
-close_frame l r (ConnectionClose code message) h s = (h, rise_same r)
-close_frame l r (ConnectionNewAddress address) h s = (h, rise_same r)
+close_frame l r (CloseFrame (StreamClose k code message)) h s = close_stream l r k code message h s
+close_frame l r (BlockedFrame b) h s = (h, rise_same r)
+close_frame l r (LimitFrame limit) h s = (h, rise_same r)
+close_frame l r (CloseFrame (ConnectionClose code message)) h s = (h, rise_same r)
+close_frame l r (OtherFrame o) h s = (h, rise_same r)
 
 close_frames : (l : ℕ → StreamLog) (fs : List Known) (r : Receiving) → RecvWhole l r → FramesSound l r fs → RecvWhole l (after_closes r fs) × Rise r (after_closes r fs)
 unfolding after_closes
@@ -387,15 +369,11 @@ unfolding after_connection_closes
 no_close l q [] r s = refl
 no_close l q (StreamData k o xs ∷ fs) r s = no_close l q fs r s.1
 no_close l q (StreamMoney k n ∷ fs) r s = no_close l q fs r s.1
-no_close l q (StreamClose k code message ∷ fs) r s = no_close l q fs r s.1
-no_close l q (StreamDataBlocked k n ∷ fs) r s = no_close l q fs r s.1
-no_close l q (StreamMoneyBlocked k n u ∷ fs) r s = no_close l q fs r s.1
-no_close l q (ConnectionDataBlocked n ∷ fs) r s = no_close l q fs r s.1
-no_close l q (ConnectionMaxData n ∷ fs) r s = no_close l q fs r s.1
-no_close l q (StreamMaxData k n ∷ fs) r s = no_close l q fs r s.1
-no_close l q (StreamMaxMoney k n u ∷ fs) r s = no_close l q fs r s.1
-no_close l q (ConnectionClose code message ∷ fs) r s = absurd s.0
-no_close l q (ConnectionNewAddress address ∷ fs) r s = no_close l q fs r s.1
+no_close l q ((CloseFrame (StreamClose k code message)) ∷ fs) r s = no_close l q fs r s.1
+no_close l q ((BlockedFrame b) ∷ fs) r s = no_close l q fs r s.1
+no_close l q ((LimitFrame limit) ∷ fs) r s = no_close l q fs r s.1
+no_close l q ((CloseFrame (ConnectionClose code message)) ∷ fs) r s = absurd s.0
+no_close l q ((OtherFrame o) ∷ fs) r s = no_close l q fs r s.1
 
 pub effect_good : (l : ℕ → StreamLog) (r : Receiving) (p : Packet) (amount : ℕ) → length r.streams ≡ 65 → frames_fault r (frames_of p) ≡ None → RecvWhole l r → FramesSound l r (frames_of p) → FramesFine (λ k. (l k).written) (frames_of p) → Good l r (frames_of p) (effect r p amount)
 effect_good l r p amount wide none h s w =

@@ -10,7 +10,7 @@ use Rattle.st_ilp.specs.Reading.{answer_at, is_fulfill_text, fulfills}
 use Rattle.st_ilp.specs.declared.error.IlpError.{IlpError}
 use Rattle.st_keys.specs.declared.error.KeyError.{KeyError}
 use Rattle.st_keys.specs.Sealed.{opened}
-use Rattle.st_frames.specs.Frames.{Known, ConnectionClose, ConnectionNewAddress, ConnectionMaxData, ConnectionDataBlocked, StreamClose, StreamMoney, StreamMaxMoney, StreamMoneyBlocked, StreamData, StreamMaxData, StreamDataBlocked, Packet, frames_of}
+use Rattle.st_frames.specs.Frames.{Known, CloseFrame, ConnectionClose, OtherFrame, LimitFrame, ConnectionMaxData, BlockedFrame, ConnectionDataBlocked, StreamClose, StreamMoney, StreamMaxMoney, StreamMoneyBlocked, StreamData, StreamMaxData, StreamDataBlocked, Packet, frames_of}
 use Rattle.st_streams.specs.Slots.{slot}
 use Rattle.st_sender.specs.Sending.{Sending, Outgoing, Flight, SentFrame, Data, Whole, new_outgoing, outgoing_at, with_outgoing, changed_at, changed}
 use Rattle.st_streams.specs.Table.{is_between, put_bytes}
@@ -100,15 +100,13 @@ close_out false l n x z = record { codes = z.codes; aborted = z.aborted; shut = 
 whole_acked : (l : ℕ → StreamLog) (r : Receiving) (s : Sending) (f : Known) → SendWhole l r s → SendWhole l r (after_whole_acked s f)
 whole_acked l r s (StreamData k o xs) h = h
 whole_acked l r s (StreamMoney k n) h = out_changed l r s k _ (λ x z. record { codes = z.codes; aborted = z.aborted; shut = z.shut; clean = z.clean; acked = z.acked }) h
-whole_acked l r s (StreamClose k code message) h = out_changed l r s k (acked_close code) (λ x z. close_out (nat_eq code 1) (l k) (incoming_at r k).highest x z) h
-whole_acked l r s (StreamDataBlocked k n) h = out_changed l r s k _ (λ x z. record { codes = z.codes; aborted = z.aborted; shut = z.shut; clean = z.clean; acked = z.acked }) h
-whole_acked l r s (StreamMoneyBlocked k n u) h = out_changed l r s k _ (λ x z. record { codes = z.codes; aborted = z.aborted; shut = z.shut; clean = z.clean; acked = z.acked }) h
-whole_acked l r s (ConnectionDataBlocked n) h = h
-whole_acked l r s (ConnectionMaxData n) h = h
-whole_acked l r s (StreamMaxData k n) h = h
-whole_acked l r s (StreamMaxMoney k n u) h = h
-whole_acked l r s (ConnectionClose code message) h = h
-whole_acked l r s (ConnectionNewAddress address) h = h
+whole_acked l r s (CloseFrame (StreamClose k code message)) h = out_changed l r s k (acked_close code) (λ x z. close_out (nat_eq code 1) (l k) (incoming_at r k).highest x z) h
+whole_acked l r s (BlockedFrame (StreamDataBlocked k n)) h = out_changed l r s k _ (λ x z. record { codes = z.codes; aborted = z.aborted; shut = z.shut; clean = z.clean; acked = z.acked }) h
+whole_acked l r s (BlockedFrame (StreamMoneyBlocked k n u)) h = out_changed l r s k _ (λ x z. record { codes = z.codes; aborted = z.aborted; shut = z.shut; clean = z.clean; acked = z.acked }) h
+whole_acked l r s (BlockedFrame (ConnectionDataBlocked n)) h = h
+whole_acked l r s (LimitFrame limit) h = h
+whole_acked l r s (CloseFrame (ConnectionClose code message)) h = h
+whole_acked l r s (OtherFrame o) h = h
 
 out_acked : (l : ℕ → StreamLog) (r : Receiving) (s : Sending) (f : SentFrame) → RecvWhole l r → FlownTaken r f → SendWhole l r s → SendWhole l r (after_acked s f)
 out_acked l r s (Data k o n) inn t h = out_changed l r s k (acked_data o n) (λ x z. acked_out (l k) (incoming_at r k) x o n (inn k) t z) h
@@ -121,15 +119,12 @@ out_all_acked l r (f ∷ fs) s inn t h = out_all_acked l r fs (after_acked s f) 
 out_told : (l : ℕ → StreamLog) (r : Receiving) (s : Sending) (f : Known) → SendWhole l r s → SendWhole l r (after_told s f)
 out_told l r s (StreamData k o xs) h = h
 out_told l r s (StreamMoney k n) h = h
-out_told l r s (StreamClose k code message) h = h
-out_told l r s (StreamDataBlocked k n) h = h
-out_told l r s (StreamMoneyBlocked k n u) h = h
-out_told l r s (ConnectionDataBlocked n) h = h
-out_told l r s (ConnectionMaxData n) h = h
-out_told l r s (StreamMaxData k n) h = out_changed l r s k _ (λ x z. record { codes = z.codes; aborted = z.aborted; shut = z.shut; clean = z.clean; acked = z.acked }) h
-out_told l r s (StreamMaxMoney k n u) h = out_changed l r s k _ (λ x z. record { codes = z.codes; aborted = z.aborted; shut = z.shut; clean = z.clean; acked = z.acked }) h
-out_told l r s (ConnectionClose code message) h = h
-out_told l r s (ConnectionNewAddress address) h = h
+out_told l r s (CloseFrame c) h = h
+out_told l r s (BlockedFrame b) h = h
+out_told l r s (LimitFrame (ConnectionMaxData n)) h = h
+out_told l r s (LimitFrame (StreamMaxData k n)) h = out_changed l r s k _ (λ x z. record { codes = z.codes; aborted = z.aborted; shut = z.shut; clean = z.clean; acked = z.acked }) h
+out_told l r s (LimitFrame (StreamMaxMoney k n u)) h = out_changed l r s k _ (λ x z. record { codes = z.codes; aborted = z.aborted; shut = z.shut; clean = z.clean; acked = z.acked }) h
+out_told l r s (OtherFrame o) h = h
 
 out_all_told : (l : ℕ → StreamLog) (r : Receiving) (fs : List Known) (s : Sending) → SendWhole l r s → SendWhole l r (after_all_told s fs)
 out_all_told l r [] s h = h
@@ -179,7 +174,7 @@ below : (n m : ℕ) → ((i : ℕ) → i < n → i < m) → n ≤ m
 below zero m f = omega arith
 below (suc n) m f = let a : n < m = f n (omega arith) in omega arith
 
-close_due : (l : ℕ → StreamLog) (r : Receiving) (s : Sending) (k code : ℕ) (message : List ℕ) → SendWhole l r s → IsDueClose s k code → FrameSound l r (StreamClose k code message)
+close_due : (l : ℕ → StreamLog) (r : Receiving) (s : Sending) (k code : ℕ) (message : List ℕ) → SendWhole l r s → IsDueClose s k code → FrameSound l r (CloseFrame (StreamClose k code message))
 close_due l r s k code message send d =
     let P : Option Outgoing → Type 0 = λ y. OutWhole (l k) (incoming_at r k).highest y in
     let h : OutSome (l k) (incoming_at r k).highest d.stream = subst P d.is_open (send k) in
@@ -191,15 +186,11 @@ close_due l r s k code message send d =
 frame_due : (l : ℕ → StreamLog) (r : Receiving) (s : Sending) (fs : List Known) (f : Known) → SendWhole l r s → IsDue s fs f → FrameSound l r f
 frame_due l r s fs (StreamData k o xs) h d = tt
 frame_due l r s fs (StreamMoney k n) h d = tt
-frame_due l r s fs (StreamClose k code message) h d = close_due l r s k code message h d.0
-frame_due l r s fs (StreamDataBlocked k n) h d = tt
-frame_due l r s fs (StreamMoneyBlocked k n u) h d = tt
-frame_due l r s fs (ConnectionDataBlocked n) h d = tt
-frame_due l r s fs (ConnectionMaxData n) h d = tt
-frame_due l r s fs (StreamMaxData k n) h d = tt
-frame_due l r s fs (StreamMaxMoney k n u) h d = tt
-frame_due l r s fs (ConnectionClose code message) h d = absurd d
-frame_due l r s fs (ConnectionNewAddress address) h d = tt
+frame_due l r s fs (CloseFrame (StreamClose k code message)) h d = close_due l r s k code message h d.0
+frame_due l r s fs (BlockedFrame b) h d = tt
+frame_due l r s fs (LimitFrame limit) h d = tt
+frame_due l r s fs (CloseFrame (ConnectionClose code message)) h d = absurd d
+frame_due l r s fs (OtherFrame o) h d = tt
 
 pub frames_due : (l : ℕ → StreamLog) (r : Receiving) (s : Sending) (ls fs : List Known) → SendWhole l r s → AllByRecursion (IsDue s ls) fs → FramesSound l r fs
 frames_due l r s ls [] h d = tt

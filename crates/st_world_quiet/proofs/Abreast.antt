@@ -8,7 +8,7 @@ use Rattle.std.specs.Cmp.{nat_cmp_total}
 use Rattle.std.specs.List.{list_any, AllByRecursion}
 use Rattle.std.proofs.lemmas.Bool.{cases_eq, cases_lt}
 use Rattle.std.proofs.lemmas.Bool.Decides.{nat_tests}
-use Rattle.st_frames.specs.Frames.{Known, Packet, StreamMaxData, StreamMaxMoney, frames_of, max_packet}
+use Rattle.st_frames.specs.Frames.{Known, Packet, LimitFrame, StreamMaxData, StreamMaxMoney, frames_of, max_packet}
 use Rattle.st_frames.specs.Told.{money_in, names}
 use Rattle.st_sender.specs.Sending.{Load, Outgoing, Sending, outgoing_at}
 use Rattle.st_sender.specs.Flights.{flown, highest_end, sent_end}
@@ -50,33 +50,33 @@ money_most : (b : Bool) (a t : ℕ) (x : Outgoing) (m : ℕ) → x.told ≤ m �
 money_most true a t x m l = l
 money_most false a t x m l = l
 
-own_most : (k : ℕ) (f : Known) (x : Outgoing) (m : ℕ) → x.told ≤ m → ((v : ℕ) → f ≡ StreamMaxData k v → v ≤ m) → (own_told k f x).told ≤ m
-own_most k (StreamMaxData j v) x m l h = elim (cases_eq j k) [
-  | inl same ↦ data_most (nat_eq j k) v x m l (λ b. h v (ap (λ i. StreamMaxData i v) same))
+own_most : (k : ℕ) (f : Known) (x : Outgoing) (m : ℕ) → x.told ≤ m → ((v : ℕ) → f ≡ LimitFrame (StreamMaxData k v) → v ≤ m) → (own_told k f x).told ≤ m
+own_most k (LimitFrame (StreamMaxData j v)) x m l h = elim (cases_eq j k) [
+  | inl same ↦ data_most (nat_eq j k) v x m l (λ b. h v (ap (λ i. LimitFrame (StreamMaxData i v)) same))
   | inr apart ↦ data_most (nat_eq j k) v x m l (λ b. absurd (let no = is_other j k apart in cc))
 ]
-own_most k (StreamMaxMoney j a t) x m l h = money_most (nat_eq j k) a t x m l
+own_most k (LimitFrame (StreamMaxMoney j a t)) x m l h = money_most (nat_eq j k) a t x m l
 own_most k f x m l h = l
 
-window_most : (k : ℕ) (fs : List Known) (x : Outgoing) (m : ℕ) → x.told ≤ m → ((v : ℕ) → Contains fs (StreamMaxData k v) → v ≤ m) → (all_own_told k fs x).told ≤ m
+window_most : (k : ℕ) (fs : List Known) (x : Outgoing) (m : ℕ) → x.told ≤ m → ((v : ℕ) → Contains fs (LimitFrame (StreamMaxData k v)) → v ≤ m) → (all_own_told k fs x).told ≤ m
 window_most k [] x m l h = l
 window_most k (f ∷ fs) x m l h =
     window_most k fs (own_told k f x) m (own_most k f x m l (λ v e. h v (zero, omega arith, e))) (λ v c. h v (suc c.0, (let i = c.1 in omega (arith, i)), c.2))
 
 -- ---- and a reply advertises no window but the stream's own
 
-told_window : (b c : Bool) (j k v : ℕ) (x : Incoming) → Contains (cond b (cond c (told_by j x) []) []) (StreamMaxData k v) → (j ≡ k) × (capped (x.held.read + 65536) ≡ v)
+told_window : (b c : Bool) (j k v : ℕ) (x : Incoming) → Contains (cond b (cond c (told_by j x) []) []) (LimitFrame (StreamMaxData k v)) → (j ≡ k) × (capped (x.held.read + 65536) ≡ v)
 told_window true true j k v x (zero, l, e) = (let a : j ≡ k = cc in a, let b : capped (x.held.read + 65536) ≡ v = cc in b)
 told_window true true j k v x (suc zero, l, e) = absurd (cc)
 told_window true true j k v x (suc (suc i), l, e) = absurd (omega (arith, l))
 told_window true false j k v x h = absurd (let l = h.1 in omega (arith, l))
 told_window false c j k v x h = absurd (let l = h.1 in omega (arith, l))
 
-window_is : (r : Receiving) (fs : List Known) (k v : ℕ) → Contains (reply_frames r fs) (StreamMaxData k v) → v ≡ capped ((incoming_at r k).held.read + 65536)
+window_is : (r : Receiving) (fs : List Known) (k v : ℕ) → Contains (reply_frames r fs) (LimitFrame (StreamMaxData k v)) → v ≡ capped ((incoming_at r k).held.read + 65536)
 unfolding reply_frames
 window_is r fs k v (zero, l, e) = absurd (cc)
 window_is r fs k v (suc i, l, e) =
-    let at = from_flat_map (named_limits r fs) 1 64 (StreamMaxData k v) (i, omega (arith, l), e) in
+    let at = from_flat_map (named_limits r fs) 1 64 (LimitFrame (StreamMaxData k v)) (i, omega (arith, l), e) in
     let is = told_window (list_any (names at.0) fs) (may_name r at.0) at.0 k v (incoming_at r at.0) at.1 in
     sym (subst (λ j. capped ((incoming_at r j).held.read + 65536) ≡ v) is.0 is.1)
 

@@ -2,7 +2,7 @@
 use Rattle.std.proofs.Common.{◌≡◌, ◌≢◌, ℕ, ◌+◌, Bool, true, false, cond, List, [], ◌∷◌, length, max, refl, sym, ◌∙◌, arith, Option, None, Some, inl, inr, nat_eq, map}
 use Rattle.std.proofs.lemmas.Bool.{cases_eq}
 use Rattle.std.proofs.lemmas.Bool.Decides.{nat_tests}
-use Rattle.st_frames.specs.Frames.{ConnectionClose, ConnectionDataBlocked, ConnectionMaxData, ConnectionNewAddress, Known, StreamClose, StreamData, StreamDataBlocked, StreamMaxData, StreamMaxMoney, StreamMoney, StreamMoneyBlocked}
+use Rattle.st_frames.specs.Frames.{CloseFrame, ConnectionClose, BlockedFrame, ConnectionDataBlocked, LimitFrame, OtherFrame, Known, StreamClose, StreamData, StreamDataBlocked, StreamMoney, StreamMoneyBlocked}
 use Rattle.st_sender.specs.Sending.{Outgoing, Sending, changed, changed_at, outgoing_at}
 use Rattle.st_sender.specs.Flights.{end_of, flown, highest_end}
 use Rattle.st_sender.specs.Answering.{acked_blocked, acked_close, acked_data, acked_money, acked_money_blocked, after_acked, after_all_acked}
@@ -29,9 +29,9 @@ own_change s j k f x e = elim (cases_eq j k) [
 abbrev pub own_acked : ℕ → Known → Outgoing → Outgoing
 own_acked k (StreamData j o xs) x = cond (nat_eq j k) (acked_data o (length xs) x) x
 own_acked k (StreamMoney j n) x = cond (nat_eq j k) (acked_money n x) x
-own_acked k (StreamClose j code message) x = cond (nat_eq j k) (acked_close code x) x
-own_acked k (StreamDataBlocked j n) x = cond (nat_eq j k) (acked_blocked n x) x
-own_acked k (StreamMoneyBlocked j n t) x = cond (nat_eq j k) (acked_money_blocked n x) x
+own_acked k (CloseFrame (StreamClose j code message)) x = cond (nat_eq j k) (acked_close code x) x
+own_acked k (BlockedFrame (StreamDataBlocked j n)) x = cond (nat_eq j k) (acked_blocked n x) x
+own_acked k (BlockedFrame (StreamMoneyBlocked j n t)) x = cond (nat_eq j k) (acked_money_blocked n x) x
 own_acked k f x = x
 
 abbrev pub all_own_acked : ℕ → List Known → Outgoing → Outgoing
@@ -41,15 +41,13 @@ all_own_acked k (f ∷ fs) x = all_own_acked k fs (own_acked k f x)
 pub acked_at : (s : Sending) (k : ℕ) (f : Known) (x : Outgoing) → outgoing_at s k ≡ Some x → outgoing_at (after_acked s (flown f)) k ≡ Some (own_acked k f x)
 acked_at s k (StreamData j o xs) x e = own_change s j k (acked_data o (length xs)) x e
 acked_at s k (StreamMoney j n) x e = own_change s j k (acked_money n) x e
-acked_at s k (StreamClose j code message) x e = own_change s j k (acked_close code) x e
-acked_at s k (StreamDataBlocked j n) x e = own_change s j k (acked_blocked n) x e
-acked_at s k (StreamMoneyBlocked j n t) x e = own_change s j k (acked_money_blocked n) x e
-acked_at s k (ConnectionDataBlocked n) x e = e
-acked_at s k (ConnectionMaxData n) x e = e
-acked_at s k (StreamMaxData j n) x e = e
-acked_at s k (StreamMaxMoney j n t) x e = e
-acked_at s k (ConnectionClose code message) x e = e
-acked_at s k (ConnectionNewAddress address) x e = e
+acked_at s k (CloseFrame (StreamClose j code message)) x e = own_change s j k (acked_close code) x e
+acked_at s k (BlockedFrame (StreamDataBlocked j n)) x e = own_change s j k (acked_blocked n) x e
+acked_at s k (BlockedFrame (StreamMoneyBlocked j n t)) x e = own_change s j k (acked_money_blocked n) x e
+acked_at s k (BlockedFrame (ConnectionDataBlocked n)) x e = e
+acked_at s k (LimitFrame l) x e = e
+acked_at s k (CloseFrame (ConnectionClose code message)) x e = e
+acked_at s k (OtherFrame o) x e = e
 
 pub all_acked_at : (s : Sending) (k : ℕ) (fs : List Known) (x : Outgoing) → outgoing_at s k ≡ Some x → outgoing_at (after_all_acked s (map flown fs)) k ≡ Some (all_own_acked k fs x)
 all_acked_at s k [] x e = e
@@ -90,15 +88,13 @@ kept_close false x = record { accepted = refl; offered = refl; clean = refl; abo
 acked_kept : (k : ℕ) (f : Known) (x : Outgoing) → IsKept x (own_acked k f x)
 acked_kept k (StreamData j o xs) x = kept_if (nat_eq j k) x (acked_data o (length xs) x) (record { accepted = refl; offered = refl; clean = refl; abort = refl; told = refl; advertised_money = refl })
 acked_kept k (StreamMoney j n) x = kept_if (nat_eq j k) x (acked_money n x) (record { accepted = refl; offered = refl; clean = refl; abort = refl; told = refl; advertised_money = refl })
-acked_kept k (StreamClose j code message) x = kept_if (nat_eq j k) x (acked_close code x) (kept_close (nat_eq code 1) x)
-acked_kept k (StreamDataBlocked j n) x = kept_if (nat_eq j k) x (acked_blocked n x) (record { accepted = refl; offered = refl; clean = refl; abort = refl; told = refl; advertised_money = refl })
-acked_kept k (StreamMoneyBlocked j n t) x = kept_if (nat_eq j k) x (acked_money_blocked n x) (record { accepted = refl; offered = refl; clean = refl; abort = refl; told = refl; advertised_money = refl })
-acked_kept k (ConnectionDataBlocked n) x = kept x
-acked_kept k (ConnectionMaxData n) x = kept x
-acked_kept k (StreamMaxData j n) x = kept x
-acked_kept k (StreamMaxMoney j n t) x = kept x
-acked_kept k (ConnectionClose code message) x = kept x
-acked_kept k (ConnectionNewAddress address) x = kept x
+acked_kept k (CloseFrame (StreamClose j code message)) x = kept_if (nat_eq j k) x (acked_close code x) (kept_close (nat_eq code 1) x)
+acked_kept k (BlockedFrame (StreamDataBlocked j n)) x = kept_if (nat_eq j k) x (acked_blocked n x) (record { accepted = refl; offered = refl; clean = refl; abort = refl; told = refl; advertised_money = refl })
+acked_kept k (BlockedFrame (StreamMoneyBlocked j n t)) x = kept_if (nat_eq j k) x (acked_money_blocked n x) (record { accepted = refl; offered = refl; clean = refl; abort = refl; told = refl; advertised_money = refl })
+acked_kept k (BlockedFrame (ConnectionDataBlocked n)) x = kept x
+acked_kept k (LimitFrame l) x = kept x
+acked_kept k (CloseFrame (ConnectionClose code message)) x = kept x
+acked_kept k (OtherFrame o) x = kept x
 
 pub all_kept : (k : ℕ) (fs : List Known) (x : Outgoing) → IsKept x (all_own_acked k fs x)
 all_kept k [] x = kept x
@@ -123,15 +119,13 @@ no_end x = omega arith
 acked_end_at : (k : ℕ) (f : Known) (x : Outgoing) → (own_acked k f x).acked_end ≡ max x.acked_end (end_of k (flown f))
 acked_end_at k (StreamData j o xs) x = end_if (nat_eq j k) x o xs
 acked_end_at k (StreamMoney j n) x = same_end_if (nat_eq j k) x (acked_money n x) refl
-acked_end_at k (StreamClose j code message) x = same_end_if (nat_eq j k) x (acked_close code x) (close_end (nat_eq code 1) x)
-acked_end_at k (StreamDataBlocked j n) x = same_end_if (nat_eq j k) x (acked_blocked n x) refl
-acked_end_at k (StreamMoneyBlocked j n t) x = same_end_if (nat_eq j k) x (acked_money_blocked n x) refl
-acked_end_at k (ConnectionDataBlocked n) x = no_end x
-acked_end_at k (ConnectionMaxData n) x = no_end x
-acked_end_at k (StreamMaxData j n) x = no_end x
-acked_end_at k (StreamMaxMoney j n t) x = no_end x
-acked_end_at k (ConnectionClose code message) x = no_end x
-acked_end_at k (ConnectionNewAddress address) x = no_end x
+acked_end_at k (CloseFrame (StreamClose j code message)) x = same_end_if (nat_eq j k) x (acked_close code x) (close_end (nat_eq code 1) x)
+acked_end_at k (BlockedFrame (StreamDataBlocked j n)) x = same_end_if (nat_eq j k) x (acked_blocked n x) refl
+acked_end_at k (BlockedFrame (StreamMoneyBlocked j n t)) x = same_end_if (nat_eq j k) x (acked_money_blocked n x) refl
+acked_end_at k (BlockedFrame (ConnectionDataBlocked n)) x = no_end x
+acked_end_at k (LimitFrame l) x = no_end x
+acked_end_at k (CloseFrame (ConnectionClose code message)) x = no_end x
+acked_end_at k (OtherFrame o) x = no_end x
 
 pub all_acked_end : (k : ℕ) (fs : List Known) (x : Outgoing) → (all_own_acked k fs x).acked_end ≡ max x.acked_end (highest_end k (map flown fs))
 all_acked_end k [] x = no_end x
@@ -147,15 +141,13 @@ none_changed s j k f e = elim (cases_eq j k) [
 none_acked : (s : Sending) (k : ℕ) (f : Known) → outgoing_at s k ≡ None → outgoing_at (after_acked s (flown f)) k ≡ None
 none_acked s k (StreamData j o xs) e = none_changed s j k (acked_data o (length xs)) e
 none_acked s k (StreamMoney j n) e = none_changed s j k (acked_money n) e
-none_acked s k (StreamClose j code message) e = none_changed s j k (acked_close code) e
-none_acked s k (StreamDataBlocked j n) e = none_changed s j k (acked_blocked n) e
-none_acked s k (StreamMoneyBlocked j n t) e = none_changed s j k (acked_money_blocked n) e
-none_acked s k (ConnectionDataBlocked n) e = e
-none_acked s k (ConnectionMaxData n) e = e
-none_acked s k (StreamMaxData j n) e = e
-none_acked s k (StreamMaxMoney j n t) e = e
-none_acked s k (ConnectionClose code message) e = e
-none_acked s k (ConnectionNewAddress address) e = e
+none_acked s k (CloseFrame (StreamClose j code message)) e = none_changed s j k (acked_close code) e
+none_acked s k (BlockedFrame (StreamDataBlocked j n)) e = none_changed s j k (acked_blocked n) e
+none_acked s k (BlockedFrame (StreamMoneyBlocked j n t)) e = none_changed s j k (acked_money_blocked n) e
+none_acked s k (BlockedFrame (ConnectionDataBlocked n)) e = e
+none_acked s k (LimitFrame l) e = e
+none_acked s k (CloseFrame (ConnectionClose code message)) e = e
+none_acked s k (OtherFrame o) e = e
 
 pub none_stays : (s : Sending) (k : ℕ) (fs : List Known) → outgoing_at s k ≡ None → outgoing_at (after_all_acked s (map flown fs)) k ≡ None
 none_stays s k [] e = e

@@ -1,7 +1,7 @@
 -- Closes that a Send takes away.
 use Rattle.std.proofs.Common.{◌≡◌, ℕ, ◌+◌, ◌≤◌, Bool, true, false, ◌&&◌, ◌||◌, cond, List, [], ◌∷◌, length, refl, ap, ◌∙◌, arith, Option, None, Some, nat_eq, map}
 use Rattle.std.specs.List.{list_any}
-use Rattle.st_frames.specs.Frames.{ConnectionClose, ConnectionDataBlocked, ConnectionMaxData, ConnectionNewAddress, Known, StreamClose, StreamData, StreamDataBlocked, StreamMaxData, StreamMaxMoney, StreamMoney, StreamMoneyBlocked}
+use Rattle.st_frames.specs.Frames.{CloseFrame, ConnectionClose, BlockedFrame, ConnectionDataBlocked, LimitFrame, OtherFrame, Known, StreamClose, StreamData, StreamDataBlocked, StreamMoney, StreamMoneyBlocked}
 use Rattle.st_sender.specs.Sending.{Outgoing, Sending, outgoing_at}
 use Rattle.st_sender.specs.Flights.{flown, is_close}
 use Rattle.st_sender.specs.Answering.{acked_data, acked_money, after_all_acked}
@@ -32,17 +32,15 @@ same_if true x y e = e ∙ or_false x.clean_settled
 same_if false x y e = or_false x.clean_settled
 
 acked_closes : (k : ℕ) (f : Known) (x : Outgoing) → (own_acked k f x).clean_settled ≡ (x.clean_settled || is_close k 1 f)
-acked_closes k (StreamClose j code message) x = close_if (nat_eq j k) (nat_eq code 1) x
+acked_closes k (CloseFrame (StreamClose j code message)) x = close_if (nat_eq j k) (nat_eq code 1) x
 acked_closes k (StreamData j o xs) x = same_if (nat_eq j k) x (acked_data o (length xs) x) refl
 acked_closes k (StreamMoney j n) x = same_if (nat_eq j k) x (acked_money n x) refl
-acked_closes k (StreamDataBlocked j n) x = same_if (nat_eq j k) x _ refl
-acked_closes k (StreamMoneyBlocked j n t) x = same_if (nat_eq j k) x _ refl
-acked_closes k (ConnectionDataBlocked n) x = or_false x.clean_settled
-acked_closes k (ConnectionMaxData n) x = or_false x.clean_settled
-acked_closes k (StreamMaxData j n) x = or_false x.clean_settled
-acked_closes k (StreamMaxMoney j n t) x = or_false x.clean_settled
-acked_closes k (ConnectionClose code message) x = or_false x.clean_settled
-acked_closes k (ConnectionNewAddress address) x = or_false x.clean_settled
+acked_closes k (BlockedFrame (StreamDataBlocked j n)) x = same_if (nat_eq j k) x _ refl
+acked_closes k (BlockedFrame (StreamMoneyBlocked j n t)) x = same_if (nat_eq j k) x _ refl
+acked_closes k (BlockedFrame (ConnectionDataBlocked n)) x = or_false x.clean_settled
+acked_closes k (LimitFrame l) x = or_false x.clean_settled
+acked_closes k (CloseFrame (ConnectionClose code message)) x = or_false x.clean_settled
+acked_closes k (OtherFrame o) x = or_false x.clean_settled
 
 pub all_acked_closes : (k : ℕ) (fs : List Known) (x : Outgoing) → (all_own_acked k fs x).clean_settled ≡ (x.clean_settled || list_any (is_close k 1) fs)
 all_acked_closes k [] x = or_false x.clean_settled

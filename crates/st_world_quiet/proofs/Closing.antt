@@ -1,6 +1,6 @@
 -- Once all bytes and money are fulfilled a close by itself is a filled load: what a Send promises can be kept.
 use Rattle.std.proofs.Common.{◌≡◌, ℕ, true, false, List, [], ◌∷◌, refl, arith, Some}
-use Rattle.st_frames.specs.Frames.{Known, StreamClose, max_packet}
+use Rattle.st_frames.specs.Frames.{Known, CloseFrame, StreamClose, max_packet}
 use Rattle.st_sender.specs.Sending.{Outgoing, Sending, outgoing_at}
 use Rattle.st_sender.specs.Flights.{due_at}
 use Rattle.st_sender.specs.Loads.{Sends, load_with, with_flight}
@@ -20,7 +20,7 @@ no_byte_due n s k o b x quiet none e due =
     omega (arith, from, till, acked, w)
 
 pub close_goes : (n : ℕ → ℕ) (s : Sending) (limits : List Known) (k : ℕ) (x : Outgoing) → IsQuiet n s → all_frames_left n s ≡ 0 → all_money_left s ≡ 0 → outgoing_at s k ≡ Some x → x.clean_settled ≡ false
-    → Sends s limits max_packet (load_with s (StreamClose k 1 [] ∷ [])) (with_flight s (load_with s (StreamClose k 1 [] ∷ []))) × Fills s limits max_packet (load_with s (StreamClose k 1 [] ∷ []))
+    → Sends s limits max_packet (load_with s ((CloseFrame (StreamClose k 1 [])) ∷ [])) (with_flight s (load_with s ((CloseFrame (StreamClose k 1 [])) ∷ []))) × Fills s limits max_packet (load_with s ((CloseFrame (StreamClose k 1 [])) ∷ []))
 close_goes n s limits k x quiet none poor e unsettled = (
   record {
     load = refl;

@@ -6,7 +6,7 @@ use Rattle.std.specs.Ordering.{nat_cmp}
 use Rattle.std.proofs.lemmas.Bool.{cases_eq, cases_lt}
 use Rattle.std.proofs.lemmas.Grind.{common_steps}
 use Rattle.st_streams.specs.Table.{put_bytes}
-use Rattle.st_frames.specs.Frames.{Known, StreamMaxMoney, max_packet}
+use Rattle.st_frames.specs.Frames.{Known, LimitFrame, StreamMaxMoney, max_packet}
 use Rattle.st_sender.specs.Sending.{Config, Load, Outgoing, Sending, outgoing_at}
 use Rattle.st_sender.specs.Accepting.{after_write}
 use Rattle.st_sender.specs.Flights.{all_ends, flight_of, highest_end, sent_end}
@@ -92,7 +92,7 @@ refilled_waits n x y left window refilled =
 
 -- ---- a stream after limits were advertised
 
-told_left : (n k : ℕ) (fs : List Known) (x : Outgoing) → IsLeft n x → ((m t : ℕ) → Contains fs (StreamMaxMoney k m t) → t + x.offered ≤ m + x.fulfilled) → IsLeft n (all_own_told k fs x)
+told_left : (n k : ℕ) (fs : List Known) (x : Outgoing) → IsLeft n x → ((m t : ℕ) → Contains fs (LimitFrame (StreamMaxMoney k m t)) → t + x.offered ≤ m + x.fulfilled) → IsLeft n (all_own_told k fs x)
 told_left n k fs x left fits =
     let only = all_told_only k fs x in
     let end = only.acked_end in

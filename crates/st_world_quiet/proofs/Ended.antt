@@ -4,7 +4,7 @@ use Rattle.std.specs.List.{AllByRecursion, list_any}
 use Rattle.std.proofs.lemmas.Bool.{cases_Bool}
 use Rattle.std.proofs.lemmas.Bool.Decides.{nat_tests}
 use Rattle.st_streams.proofs.SlotLemmas.{slot_here, slot_within}
-use Rattle.st_frames.specs.Frames.{Known, StreamClose, frames_of, max_packet}
+use Rattle.st_frames.specs.Frames.{Known, CloseFrame, StreamClose, frames_of, max_packet}
 use Rattle.st_reassembly.specs.Held.{Held, is_over}
 use Rattle.st_reassembly.specs.Closing.{after_abort, after_finish, past_all}
 use Rattle.st_reassembly.proofs.Pointwise.{joins_after}
@@ -56,7 +56,7 @@ close_keeps true code h e = finish_by (is_over h) h (past_all h) (λ over. e)
 close_keeps false code h e = abort_keeps (is_over h) h _ refl e
 
 one_keeps : (r : Receiving) (f : Known) (k : ℕ) → is_some (incoming_at r k).held.end ≡ true → is_some (incoming_at (after_close r f) k).held.end ≡ true
-one_keeps r (StreamClose j code message) k e = elim (replaced_here r j (with_close code (incoming_at r j)) k) [
+one_keeps r (CloseFrame (StreamClose j code message)) k e = elim (replaced_here r j (with_close code (incoming_at r j)) k) [
   | inl is ↦ ap (λ (y : Incoming). is_some y.held.end) is.1 ∙ close_keeps (nat_eq code 1) code (incoming_at r j).held (subst (λ i. is_some (incoming_at r i).held.end ≡ true) is.0 e)
   | inr is ↦ ap (λ (y : Incoming). is_some y.held.end) is ∙ e
 ]
@@ -67,7 +67,7 @@ close_sets true code h e alive = finish_ends h alive
 close_sets false code h e alive = absurd (cc)
 
 one_sets : (r : Receiving) (f : Known) (k : ℕ) → k < length r.streams → (incoming_at r k).held.aborted ≡ None → is_close k 1 f ≡ true → is_some (incoming_at (after_close r f) k).held.end ≡ true
-one_sets r (StreamClose j code message) k low alive e =
+one_sets r (CloseFrame (StreamClose j code message)) k low alive e =
     let parts = both_parts (nat_eq j k) (nat_eq code 1) e in
     let first = parts.0 in
     let same : j ≡ k = grind (arith, nat_tests) in

@@ -2,7 +2,7 @@
 use Rattle.std.proofs.Common.{◌≡◌, ℕ, ◌+◌, ◌^◌, ◌<◌, ◌≤◌, List, [], max, refl, sym, ap, ◌∙◌, arith, Option, None, Some, ◌⊎◌, inl, inr, map}
 use Rattle.std.specs.Prelude.{Contains}
 use Rattle.std.proofs.lemmas.Bool.{cases_lt}
-use Rattle.st_frames.specs.Frames.{Known, StreamMaxData, StreamMaxMoney, max_packet}
+use Rattle.st_frames.specs.Frames.{Known, LimitFrame, StreamMaxData, StreamMaxMoney, max_packet}
 use Rattle.st_frames.specs.Told.{money_in}
 use Rattle.st_sender.specs.Sending.{Load, Outgoing, Sending, outgoing_at}
 use Rattle.st_sender.specs.Flights.{all_ends, flight_of, flown, flying_end, highest_end, sent_end}
@@ -42,7 +42,7 @@ ends_after n s limits p quiet sends =
     0 65
 
 window_after : (n : ℕ → ℕ) (s : Sending) (limits : List Known) (p : Load) (told : List Known) (k : ℕ) (y : Outgoing) (o : Option Outgoing) → IsQuiet n s → Sends s limits max_packet p (with_flight s p) → Fills s limits max_packet p → IsSmall s → PeerTells s p told
-    → outgoing_at s k ≡ o → outgoing_at (after_fulfilled (with_flight s p) (flight_of p)) k ≡ Some y → (y.acked_end + 16000 ≤ y.told) ⊎ ((v : ℕ) × Contains told (StreamMaxData k v) × (y.acked_end + 16000 ≤ v))
+    → outgoing_at s k ≡ o → outgoing_at (after_fulfilled (with_flight s p) (flight_of p)) k ≡ Some y → (y.acked_end + 16000 ≤ y.told) ⊎ ((v : ℕ) × Contains told (LimitFrame (StreamMaxData k v)) × (y.acked_end + 16000 ≤ v))
 window_after n s limits p told k y None quiet sends fills small tells e here =
     absurd (let gone = none_stays (landed (with_flight s p) p.sequence) k p.frames e in let clash : ◌≡◌ {A = Option Outgoing} None (Some y) = sym gone ∙ here in cc)
 window_after n s limits p told k y (Some x) quiet sends fills small tells e here =
@@ -68,7 +68,7 @@ window_after n s limits p told k y (Some x) quiet sends fills small tells e here
     capped_enough new old v a b c = omega arith
 
 money_after : (n : ℕ → ℕ) (s : Sending) (p : Load) (told : List Known) (k receive_max total : ℕ) (y : Outgoing) (o : Option Outgoing) → PeerTells s p told → outgoing_at s k ≡ o → outgoing_at (after_fulfilled (with_flight s p) (flight_of p)) k ≡ Some y
-    → Contains told (StreamMaxMoney k receive_max total) → total + y.offered ≤ receive_max + y.fulfilled
+    → Contains told (LimitFrame (StreamMaxMoney k receive_max total)) → total + y.offered ≤ receive_max + y.fulfilled
 money_after n s p told k receive_max total y None tells e here c =
     absurd (let gone = none_stays (landed (with_flight s p) p.sequence) k p.frames e in let clash : ◌≡◌ {A = Option Outgoing} None (Some y) = sym gone ∙ here in cc)
 money_after n s p told k receive_max total y (Some x) tells e here c =

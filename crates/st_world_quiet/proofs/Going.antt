@@ -5,7 +5,7 @@ use Rattle.std.specs.List.{sum_by}
 use Rattle.std.specs.Ordering.{nat_cmp}
 use Rattle.std.specs.Cmp.{nat_cmp_total}
 use Rattle.std.proofs.lemmas.List.Sums.{sum_by-cons}
-use Rattle.st_frames.specs.Frames.{Known, StreamClose, StreamData, StreamMoney, max_packet}
+use Rattle.st_frames.specs.Frames.{Known, CloseFrame, StreamClose, StreamData, StreamMoney, max_packet}
 use Rattle.st_frames.specs.Told.{money_in, money_of, shares_of}
 use Rattle.st_frames.specs.Written.{frame_text}
 use Rattle.st_sender.specs.Sending.{Outgoing, Sending, outgoing_at}
@@ -90,8 +90,8 @@ one_fits n s f quiet none short cheap money = record {
   room_left = one_has_room (s.last + 1) (least_of s (sum_by shares_of (f ∷ []))) f short;
 }
 
-pub close_fits : (n : ℕ → ℕ) (s : Sending) (k : ℕ) → IsQuiet n s → Fits s max_packet (load_with s (StreamClose k 1 [] ∷ []))
-close_fits n s k quiet = one_fits n s (StreamClose k 1 []) quiet (λ j. refl) (close_short k 1) (omega arith) (λ j y open_at. none_fits n s j y.advertised_money quiet)
+pub close_fits : (n : ℕ → ℕ) (s : Sending) (k : ℕ) → IsQuiet n s → Fits s max_packet (load_with s ((CloseFrame (StreamClose k 1 [])) ∷ []))
+close_fits n s k quiet = one_fits n s (CloseFrame (StreamClose k 1 [])) quiet (λ j. refl) (close_short k 1) (omega arith) (λ j y open_at. none_fits n s j y.advertised_money quiet)
 
 -- every look-up finds nothing
 pub all_gone : (m : fmap.FinMap nat_cmp ℕ) → ((q : ℕ) → fmap.get m q ≡ None) → m ≡ fmap.empty
@@ -99,7 +99,7 @@ all_gone m none = fmap.same_map nat_cmp_total fmap.nat_cmp-IsAntisymmetric m fma
 
 -- a clean close is due once all is fulfilled
 pub close_due : (n : ℕ → ℕ) (s : Sending) (limits : List Known) (k : ℕ) (x : Outgoing) → IsQuiet n s → outgoing_at s k ≡ Some x → n k ≤ x.acked_end → x.offered - x.fulfilled ≡ 0 → x.clean_settled ≡ false
-    → IsDue s limits (StreamClose k 1 [])
+    → IsDue s limits (CloseFrame (StreamClose k 1 []))
 close_due n s limits k x quiet e acked paid unsettled =
     let w = quiet.streams k x e in
     let within = w.within in

@@ -7,7 +7,7 @@ use Rattle.std.proofs.lemmas.Bool.{cases_eq, cases_lt}
 use Rattle.std.proofs.lemmas.Bool.Decides.{nat_tests}
 use Rattle.std.proofs.lemmas.List.{length-set}
 use Rattle.st_streams.proofs.SlotLemmas.{slot_here, slot_within}
-use Rattle.st_frames.specs.Frames.{Known, Packet, StreamClose, StreamData, StreamMoney, max_packet}
+use Rattle.st_frames.specs.Frames.{Known, Packet, CloseFrame, StreamClose, StreamData, StreamMoney, max_packet}
 use Rattle.st_reassembly.specs.Held.{Held, after_insert, is_wanted, is_over, piece_at}
 use Rattle.st_reassembly.specs.Closing.{after_finish}
 use Rattle.st_reassembly.specs.Run.{run}
@@ -107,7 +107,7 @@ frame_keeps : (r : Receiving) (f : Known) (k q : ℕ) → HoldsByte r k q → Ho
 frame_keeps r (StreamData j o xs) k q h =
     kept_byte r j (with_data o xs (incoming_at r j)) k q (λ b e. (joins_after o xs (incoming_at r j).held).bytes q ∙ some_stays (bytes_at r j q) _ b e) h
 frame_keeps r (StreamMoney j m) k q h = kept_byte r j (incoming_at r j) k q (λ b e. e) h
-frame_keeps r (StreamClose j code message) k q h = kept_byte r j (incoming_at r j) k q (λ b e. e) h
+frame_keeps r (CloseFrame (StreamClose j code message)) k q h = kept_byte r j (incoming_at r j) k q (λ b e. e) h
 frame_keeps r f k q h = h
 
 frames_keep : (r : Receiving) (fs : List Known) (k q : ℕ) → HoldsByte r k q → HoldsByte (after_frames r fs) k q
@@ -144,13 +144,13 @@ frame_lacks r (StreamData j o xs) k q e c = elim (replaced_here r j (with_data o
   | inr is ↦ ap (λ (x : Incoming). fmap.get x.held.bytes q) is ∙ e
 ]
 frame_lacks r (StreamMoney j m) k q e c = replaced_at (λ x. fmap.get x.held.bytes q) r j (incoming_at r j) k refl ∙ e
-frame_lacks r (StreamClose j code message) k q e c = replaced_at (λ x. fmap.get x.held.bytes q) r j (incoming_at r j) k refl ∙ e
+frame_lacks r (CloseFrame (StreamClose j code message)) k q e c = replaced_at (λ x. fmap.get x.held.bytes q) r j (incoming_at r j) k refl ∙ e
 frame_lacks r f k q e c = e
 
 pub frame_at : {A : Type 0} (g : Held → A) → ((o : ℕ) (xs : List ℕ) (h : Held) → g (after_insert o xs h) ≡ g h) → (r : Receiving) (f : Known) (k : ℕ) → g (incoming_at (after_frame r f) k).held ≡ g (incoming_at r k).held
 frame_at g keeps r (StreamData j o xs) k = replaced_at (λ x. g x.held) r j (with_data o xs (incoming_at r j)) k (keeps o xs (incoming_at r j).held)
 frame_at g keeps r (StreamMoney j m) k = replaced_at (λ x. g x.held) r j (incoming_at r j) k refl
-frame_at g keeps r (StreamClose j code message) k = replaced_at (λ x. g x.held) r j (incoming_at r j) k refl
+frame_at g keeps r (CloseFrame (StreamClose j code message)) k = replaced_at (λ x. g x.held) r j (incoming_at r j) k refl
 frame_at g keeps r f k = refl
 
 frame_on : (r : Receiving) (f : Known) (k : ℕ) → IsOn (incoming_at r k).held → IsOn (incoming_at (after_frame r f) k).held
@@ -162,7 +162,7 @@ frame_on r f k on = record {
 frame_slots : (r : Receiving) (f : Known) → length (after_frame r f).streams ≡ length r.streams
 frame_slots r (StreamData j o xs) = length-set r.streams j (Some (with_data o xs (incoming_at r j)))
 frame_slots r (StreamMoney j m) = length-set r.streams j (Some (incoming_at r j))
-frame_slots r (StreamClose j code message) = length-set r.streams j (Some (incoming_at r j))
+frame_slots r (CloseFrame (StreamClose j code message)) = length-set r.streams j (Some (incoming_at r j))
 frame_slots r f = refl
 
 frames_hold : (r : Receiving) (fs : List Known) (k q : ℕ) → k < length r.streams → IsOn (incoming_at r k).held → (incoming_at r k).held.read ≤ q → list_any (carries k q) (map flown fs) ≡ true → HoldsByte (after_frames r fs) k q

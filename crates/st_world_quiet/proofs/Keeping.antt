@@ -6,7 +6,7 @@ use Rattle.std.proofs.lemmas.Bool.{cases_eq, cases_lt}
 use Rattle.std.proofs.lemmas.Bool.Decides.{nat_tests}
 use Rattle.st_streams.specs.Table.{is_between}
 use Rattle.st_streams.proofs.Tables.{get-kept}
-use Rattle.st_frames.specs.Frames.{ConnectionClose, ConnectionDataBlocked, ConnectionMaxData, ConnectionNewAddress, Known, StreamClose, StreamData, StreamDataBlocked, StreamMaxData, StreamMaxMoney, StreamMoney, StreamMoneyBlocked, max_packet}
+use Rattle.st_frames.specs.Frames.{CloseFrame, ConnectionClose, BlockedFrame, ConnectionDataBlocked, LimitFrame, OtherFrame, Known, StreamClose, StreamData, StreamDataBlocked, StreamMoney, StreamMoneyBlocked, max_packet}
 use Rattle.st_sender.specs.Sending.{Load, Outgoing, Sending, outgoing_at}
 use Rattle.st_sender.specs.Flights.{carries, due_at, end_of, flown, highest_end}
 use Rattle.st_sender.specs.Due.{IsDue}
@@ -40,15 +40,13 @@ close_same false x = refl
 unacked_at : (k : ℕ) (f : Known) (x : Outgoing) (q : ℕ) → fmap.get (own_acked k f x).unacked q ≡ cond (carries k q (flown f)) None (fmap.get x.unacked q)
 unacked_at k (StreamData j o xs) x q = data_if (nat_eq j k) x o xs q
 unacked_at k (StreamMoney j n) x q = same_if (nat_eq j k) x _ q refl
-unacked_at k (StreamClose j code message) x q = same_if (nat_eq j k) x (acked_close code x) q (close_same (nat_eq code 1) x)
-unacked_at k (StreamDataBlocked j n) x q = same_if (nat_eq j k) x _ q refl
-unacked_at k (StreamMoneyBlocked j n t) x q = same_if (nat_eq j k) x _ q refl
-unacked_at k (ConnectionDataBlocked n) x q = refl
-unacked_at k (ConnectionMaxData n) x q = refl
-unacked_at k (StreamMaxData j n) x q = refl
-unacked_at k (StreamMaxMoney j n t) x q = refl
-unacked_at k (ConnectionClose code message) x q = refl
-unacked_at k (ConnectionNewAddress address) x q = refl
+unacked_at k (CloseFrame (StreamClose j code message)) x q = same_if (nat_eq j k) x (acked_close code x) q (close_same (nat_eq code 1) x)
+unacked_at k (BlockedFrame (StreamDataBlocked j n)) x q = same_if (nat_eq j k) x _ q refl
+unacked_at k (BlockedFrame (StreamMoneyBlocked j n t)) x q = same_if (nat_eq j k) x _ q refl
+unacked_at k (BlockedFrame (ConnectionDataBlocked n)) x q = refl
+unacked_at k (LimitFrame l) x q = refl
+unacked_at k (CloseFrame (ConnectionClose code message)) x q = refl
+unacked_at k (OtherFrame o) x q = refl
 
 twice : (a b : Bool) (g : Option ℕ) → cond b None (cond a None g) ≡ cond (a || b) None g
 twice true true g = refl

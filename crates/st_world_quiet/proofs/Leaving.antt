@@ -3,7 +3,7 @@ use Rattle.std.proofs.Common.{◌≡◌, ℕ, zero, suc, Bool, true, false, cond
 use Rattle.std.specs.List.{AllByRecursion}
 use Rattle.std.proofs.lemmas.List.{length-set}
 use Rattle.st_streams.specs.Slots.{Slots, slot}
-use Rattle.st_frames.specs.Frames.{ConnectionClose, Known, StreamClose}
+use Rattle.st_frames.specs.Frames.{CloseFrame, ConnectionClose, Known, StreamClose}
 use Rattle.st_frames.specs.Told.{shares}
 use Rattle.st_reassembly.specs.Held.{Held, is_over}
 use Rattle.st_reassembly.specs.Closing.{after_abort, after_finish}
@@ -50,7 +50,7 @@ close_reads code x =
     either_if read (nat_eq code 1) x.held (after_finish x.held) (after_abort code x.held) (kept_if read (is_over x.held) x.held _ refl) (kept_if read (is_over x.held) x.held _ refl)
 
 one_close_reads : (r : Receiving) (f : Known) (k : ℕ) → (incoming_at (after_close r f) k).held.read ≡ (incoming_at r k).held.read
-one_close_reads r (StreamClose j code message) k = replaced_at (λ x. x.held.read) r j (with_close code (incoming_at r j)) k (close_reads code (incoming_at r j))
+one_close_reads r (CloseFrame (StreamClose j code message)) k = replaced_at (λ x. x.held.read) r j (with_close code (incoming_at r j)) k (close_reads code (incoming_at r j))
 one_close_reads r f k = refl
 
 closes_read : (r : Receiving) (fs : List Known) (k : ℕ) → (incoming_at (after_closes r fs) k).held.read ≡ (incoming_at r k).held.read
@@ -61,7 +61,7 @@ closes_read r (f ∷ fs) k = closes_read (after_close r f) fs k ∙ one_close_re
 -- a close of a lossless run is clean
 pub one_close_keeps : {A : Type 0} (g : Held → A) → ((h : Held) → g (after_finish h) ≡ g h) → (n : ℕ → ℕ) (s : Sending) (limits : List Known) (r : Receiving) (f : Known) (k : ℕ) → IsQuiet n s → IsDue s limits f
     → g (incoming_at (after_close r f) k).held ≡ g (incoming_at r k).held
-one_close_keeps g keeps n s limits r (StreamClose j code message) k quiet due =
+one_close_keeps g keeps n s limits r (CloseFrame (StreamClose j code message)) k quiet due =
     let d = due.0 in
     let clean = (clean_asked n s j code d.stream quiet d.is_open d.asked).0 in
     let one : g (with_close code (incoming_at r j)).held ≡ g (incoming_at r j).held = rw clean (keeps (incoming_at r j).held) in
@@ -75,7 +75,7 @@ closes_keep g keeps n s limits r [] k quiet due = refl
 closes_keep g keeps n s limits r (f ∷ fs) k quiet due = closes_keep g keeps n s limits (after_close r f) fs k quiet due.1 ∙ one_close_keeps g keeps n s limits r f k quiet due.0
 
 pub one_close_slots : (r : Receiving) (f : Known) → length (after_close r f).streams ≡ length r.streams
-one_close_slots r (StreamClose j code message) = length-set r.streams j (Some (with_close code (incoming_at r j)))
+one_close_slots r (CloseFrame (StreamClose j code message)) = length-set r.streams j (Some (with_close code (incoming_at r j)))
 one_close_slots r f = refl
 
 pub closes_slots : (r : Receiving) (fs : List Known) → length (after_closes r fs).streams ≡ length r.streams
@@ -85,7 +85,7 @@ closes_slots r (f ∷ fs) = closes_slots (after_close r f) fs ∙ one_close_slot
 
 -- an outgoing packet closes no connection
 no_connection_close : (s : Sending) (limits : List Known) (r : Receiving) (f : Known) → IsDue s limits f → after_connection_close r f ≡ r
-no_connection_close s limits r (ConnectionClose code message) due = absurd due
+no_connection_close s limits r (CloseFrame (ConnectionClose code message)) due = absurd due
 no_connection_close s limits r f due = refl
 
 pub no_connection_closes : (s : Sending) (limits : List Known) (r : Receiving) (fs : List Known) → AllByRecursion (IsDue s limits) fs → after_connection_closes r fs ≡ r

@@ -3,7 +3,7 @@ use Rattle.std.proofs.Common.{◌≡◌, ℕ, ◌+◌, ◌<◌, ◌≤◌, Bool,
 use Rattle.std.proofs.lemmas.Bool.Decides.{nat_tests}
 use Rattle.st_oer.proofs.Bytes.{length-bytes_high_first}
 use Rattle.st_oer.specs.Spelling.{byte_count, digits, length_bytes, octets, var_uint}
-use Rattle.st_frames.specs.Frames.{max_packet, Known, StreamClose, StreamData, StreamMoney}
+use Rattle.st_frames.specs.Frames.{max_packet, Known, CloseFrame, StreamClose, StreamData, StreamMoney}
 use Rattle.st_frames.specs.Written.{contents_text, frame_text, packet_length}
 
 small_if : (b : Bool) (x y : ℕ) → x ≤ 8 → y ≤ 8 → cond b x y ≤ 8
@@ -46,7 +46,7 @@ byte_short k o b =
     let all = octets_short (var_uint k ++ (var_uint o ++ (octets (b ∷ []) ++ []))) (omega (arith, v, u, c, e0, e1, e2)) in
     omega (arith, v, u, c, e0, e1, e2, all)
 
-pub close_short : (k c : ℕ) → length (frame_text (StreamClose k c [])) ≤ 40
+pub close_short : (k c : ℕ) → length (frame_text (CloseFrame (StreamClose k c []))) ≤ 40
 unfolding frame_text contents_text
 close_short k c =
     let v = var_uint_small k in

@@ -1,7 +1,7 @@
 -- A Send that was lost leaves a quiet state, and as much to do as before; so a run has one Send more for each that is lost.
 use Rattle.std.proofs.Common.{◌≡◌, ℕ, suc, ◌+◌, ◌<◌, ◌≤◌, Bool, false, ◌||◌, List, [], ◌∷◌, length, max, refl, sym, ap, subst, ◌∙◌, arith, Option, None, Some, nat_le}
 use Rattle.std.proofs.lemmas.Bool.Decides.{nat_tests}
-use Rattle.st_frames.specs.Frames.{ConnectionClose, ConnectionDataBlocked, ConnectionMaxData, ConnectionNewAddress, Known, StreamClose, StreamData, StreamDataBlocked, StreamMaxData, StreamMaxMoney, StreamMoney, StreamMoneyBlocked}
+use Rattle.st_frames.specs.Frames.{CloseFrame, BlockedFrame, LimitFrame, ConnectionMaxData, OtherFrame, Known, StreamData, StreamMaxData, StreamMaxMoney, StreamMoney}
 use Rattle.st_sender.specs.Sending.{Config, Load, Outgoing, Sending, changed_at, outgoing_at}
 use Rattle.st_sender.specs.Flights.{all_ends, flight_of, highest_end, sent_end}
 use Rattle.st_sender.specs.Loads.{with_flight}
@@ -120,17 +120,14 @@ failures_changed s j f None = refl
 failures_changed s j f (Some x) = refl
 
 failures_told : (s : Sending) (f : Known) → (after_told s f).failures ≡ s.failures
-failures_told s (StreamMaxData j v) = failures_changed s j (told_data v) (outgoing_at s j)
-failures_told s (StreamMaxMoney j a t) = failures_changed s j (advertised_receive_max a t) (outgoing_at s j)
-failures_told s (ConnectionMaxData v) = refl
+failures_told s (LimitFrame (StreamMaxData j v)) = failures_changed s j (told_data v) (outgoing_at s j)
+failures_told s (LimitFrame (StreamMaxMoney j a t)) = failures_changed s j (advertised_receive_max a t) (outgoing_at s j)
+failures_told s (LimitFrame (ConnectionMaxData v)) = refl
 failures_told s (StreamData j o xs) = refl
 failures_told s (StreamMoney j n) = refl
-failures_told s (StreamClose j code message) = refl
-failures_told s (StreamDataBlocked j n) = refl
-failures_told s (StreamMoneyBlocked j n t) = refl
-failures_told s (ConnectionDataBlocked n) = refl
-failures_told s (ConnectionClose code message) = refl
-failures_told s (ConnectionNewAddress address) = refl
+failures_told s (CloseFrame c) = refl
+failures_told s (BlockedFrame b) = refl
+failures_told s (OtherFrame o) = refl
 
 failures_all_told : (s : Sending) (fs : List Known) → (after_all_told s fs).failures ≡ s.failures
 failures_all_told s [] = refl

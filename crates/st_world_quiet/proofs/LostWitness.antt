@@ -1,7 +1,7 @@
 -- Sends may be lost: if only closes are left, there is one whose Prepare is lost, and one whose answer is.
 use Rattle.std.proofs.Common.{◌≡◌, ℕ, ◌+◌, ◌<◌, ◌≤◌, false, [], ◌∷◌, refl, ap, arith, Option, None, Some, inl}
 use Rattle.st_streams.specs.Table.{put_bytes}
-use Rattle.st_frames.specs.Frames.{StreamClose}
+use Rattle.st_frames.specs.Frames.{CloseFrame, StreamClose}
 use Rattle.st_sender.specs.Sending.{Load, Outgoing, Sending, outgoing_at}
 use Rattle.st_sender.specs.Loads.{load_with}
 use Rattle.st_receiver.specs.Streams.{Receiving}
@@ -41,7 +41,7 @@ same_written n v full = record { streams = λ k. by k (outgoing_at v k) refl; sl
 
 -- the close of a stream
 abbrev the_close : Sending → (stream : ℕ) → Load
-the_close s k = load_with s (StreamClose k 1 [] ∷ [])
+the_close s k = load_with s ((CloseFrame (StreamClose k 1 [])) ∷ [])
 
 close_missed : (n : ℕ → ℕ) (s : Sending) (k : ℕ) (x : Outgoing) → IsQuiet n s → all_frames_left n s ≡ 0 → all_money_left s ≡ 0 → outgoing_at s k ≡ Some x → x.clean_settled ≡ false → s.last + 1 < s.config.packets → Miss n s (once_lost s (the_close s k))
 close_missed n s k x quiet none poor e unsettled left = record {

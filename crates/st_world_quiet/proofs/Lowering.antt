@@ -6,7 +6,7 @@ use Rattle.std.proofs.Math.Nat.{div-eq_of_lt}
 use Rattle.std.proofs.lemmas.Nat.{le-div}
 use Rattle.std.proofs.lemmas.Bool.{cases_eq, cases_lt}
 use Rattle.st_streams.specs.Slots.{no_slots, slot}
-use Rattle.st_frames.specs.Frames.{ConnectionClose, ConnectionDataBlocked, ConnectionMaxData, ConnectionNewAddress, Known, StreamClose, StreamData, StreamDataBlocked, StreamMaxData, StreamMaxMoney, StreamMoney, StreamMoneyBlocked, max_packet}
+use Rattle.st_frames.specs.Frames.{CloseFrame, ConnectionClose, BlockedFrame, ConnectionDataBlocked, LimitFrame, ConnectionMaxData, OtherFrame, Known, StreamClose, StreamData, StreamDataBlocked, StreamMaxData, StreamMaxMoney, StreamMoney, StreamMoneyBlocked, max_packet}
 use Rattle.st_sender.specs.Sending.{Load, Marks, Outgoing, Sending, changed_at, outgoing_at}
 use Rattle.st_sender.specs.Flights.{due_money, due_at, flight_of, flown, is_close}
 use Rattle.st_sender.specs.Due.{IsAbort, IsCleanClose, IsDue, IsDueData, IsDueLimit}
@@ -124,7 +124,7 @@ some_goes n s limits quiet left idle =
         | inl money ↦ (let m = some_money_left s money in money_goes n s limits m.0 m.1 quiet m.2 m.3 idle)
         | inr poor ↦ (let z = no_prepares s quiet.pays (omega (arith, poor)) in
             let c = some_close_left s (omega (arith, z, none, left)) in
-            idle (StreamClose c.0 1 [])
+            idle (CloseFrame (StreamClose c.0 1 []))
             (close_due n s limits c.0 c.1 quiet c.2 (no_bytes n s c.0 c.1 quiet.slots (omega (arith, none)) c.2) (no_money s c.0 c.1 quiet.slots (omega (arith, poor)) c.2) c.3)
             (close_fits n s c.0 quiet))
       ]
@@ -171,7 +171,7 @@ no_limit_due s limits value mark f none due = let m = due.marked in let e = m.1 
 -- then each frame that is due is a close of a stream that is still open
 only_closes : (n : ℕ → ℕ) (s : Sending) (limits : List Known) (f : Known) → IsQuiet n s → all_frames_left n s ≡ 0 → all_money_left s ≡ 0 → IsDue s limits f
     → (k : ℕ) × (x : Outgoing) × (outgoing_at s k ≡ Some x) × (x.clean_settled ≡ false) × (is_close k 1 f ≡ true)
-only_closes n s limits (StreamClose k c message) quiet none poor due =
+only_closes n s limits (CloseFrame (StreamClose k c message)) quiet none poor due =
     let d = due.0 in
     let asked = clean_asked n s k c d.stream quiet d.is_open d.asked in
     (k, d.stream, d.is_open, asked.1, (let a = is_same k k refl in let b = is_same c 1 asked.0 in rw (a, b) refl))
@@ -179,21 +179,21 @@ only_closes n s limits (StreamData k o xs) quiet none poor due = absurd (no_data
 only_closes n s limits (StreamMoney k m) quiet none poor due =
     absurd (let w = quiet.streams k due.stream due.is_open in let d = due_is_left s k due.stream quiet.alone w.alive in let z = no_money s k due.stream quiet.slots poor due.is_open in
     let a = due.some in let b = due.due in omega (arith, d, z, a, b))
-only_closes n s limits (StreamDataBlocked k m) quiet none poor due =
+only_closes n s limits (BlockedFrame (StreamDataBlocked k m)) quiet none poor due =
     absurd (let waits = due.waits in let at = data_needs_bytes n s k waits.0 due.stream waits.1 quiet due.is_open waits.2 in
     let acked = no_bytes n s k due.stream quiet.slots none due.is_open in let w = (quiet.streams k due.stream due.is_open).total in let a = at.0 in let b = at.1 in omega (arith, a, b, acked, w))
-only_closes n s limits (ConnectionDataBlocked m) quiet none poor due =
+only_closes n s limits (BlockedFrame (ConnectionDataBlocked m)) quiet none poor due =
     absurd (let waits = due.waits in let at = data_needs_bytes n s waits.0 waits.1 waits.3 waits.2 quiet waits.4 waits.5 in
     let acked = no_bytes n s waits.0 waits.3 quiet.slots none waits.4 in let w = (quiet.streams waits.0 waits.3 waits.4).total in let a = at.0 in let b = at.1 in omega (arith, a, b, acked, w))
-only_closes n s limits (StreamMoneyBlocked k m t) quiet none poor due =
+only_closes n s limits (BlockedFrame (StreamMoneyBlocked k m t)) quiet none poor due =
     absurd (let w = quiet.streams k due.stream due.is_open in let d = due_is_left s k due.stream quiet.alone w.alive in let z = no_money s k due.stream quiet.slots poor due.is_open in
     let arrives = whole_arrives s.config.least (due_money s k due.stream) quiet.whole in
     let a = due.waits in omega (arith, arrives, d, z, a))
-only_closes n s limits (ConnectionMaxData v) quiet none poor due = absurd (no_limit_due s limits v s.marks.connection (ConnectionMaxData v) (ap (λ (m : Marks). m.connection) quiet.unmarked) due)
-only_closes n s limits (StreamMaxData k v) quiet none poor due = absurd (no_limit_due s limits v (slot s.marks.offsets k) (StreamMaxData k v) (ap (λ (m : Marks). slot m.offsets k) quiet.unmarked ∙ no_slot k) due)
-only_closes n s limits (StreamMaxMoney k v t) quiet none poor due = absurd (no_limit_due s limits v (slot s.marks.money k) (StreamMaxMoney k v t) (ap (λ (m : Marks). slot m.money k) quiet.unmarked ∙ no_slot k) due)
-only_closes n s limits (ConnectionClose code message) quiet none poor due = absurd due
-only_closes n s limits (ConnectionNewAddress address) quiet none poor due = absurd due
+only_closes n s limits (LimitFrame (ConnectionMaxData v)) quiet none poor due = absurd (no_limit_due s limits v s.marks.connection (LimitFrame (ConnectionMaxData v)) (ap (λ (m : Marks). m.connection) quiet.unmarked) due)
+only_closes n s limits (LimitFrame (StreamMaxData k v)) quiet none poor due = absurd (no_limit_due s limits v (slot s.marks.offsets k) (LimitFrame (StreamMaxData k v)) (ap (λ (m : Marks). slot m.offsets k) quiet.unmarked ∙ no_slot k) due)
+only_closes n s limits (LimitFrame (StreamMaxMoney k v t)) quiet none poor due = absurd (no_limit_due s limits v (slot s.marks.money k) (LimitFrame (StreamMaxMoney k v t)) (ap (λ (m : Marks). slot m.money k) quiet.unmarked ∙ no_slot k) due)
+only_closes n s limits (CloseFrame (ConnectionClose code message)) quiet none poor due = absurd due
+only_closes n s limits (OtherFrame o) quiet none poor due = absurd due
 
 first_closes : (n : ℕ → ℕ) (s : Sending) (limits : List Known) (fs : List Known) → IsQuiet n s → all_frames_left n s ≡ 0 → all_money_left s ≡ 0 → fs ≢ [] → AllByRecursion (IsDue s limits) fs
     → (k : ℕ) × (x : Outgoing) × (outgoing_at s k ≡ Some x) × (x.clean_settled ≡ false) × (list_any (is_close k 1) fs ≡ true)
@@ -211,15 +211,13 @@ limit_at s j f (Some x) = refl
 limit_acked : (s : Sending) (f : Known) → (after_acked s (flown f)).packet_limit ≡ s.packet_limit
 limit_acked s (StreamData j o xs) = limit_at s j _ (outgoing_at s j)
 limit_acked s (StreamMoney j n) = limit_at s j _ (outgoing_at s j)
-limit_acked s (StreamClose j code message) = limit_at s j _ (outgoing_at s j)
-limit_acked s (StreamDataBlocked j n) = limit_at s j _ (outgoing_at s j)
-limit_acked s (StreamMoneyBlocked j n t) = limit_at s j _ (outgoing_at s j)
-limit_acked s (ConnectionDataBlocked n) = refl
-limit_acked s (ConnectionMaxData n) = refl
-limit_acked s (StreamMaxData j n) = refl
-limit_acked s (StreamMaxMoney j n t) = refl
-limit_acked s (ConnectionClose code message) = refl
-limit_acked s (ConnectionNewAddress address) = refl
+limit_acked s (CloseFrame (StreamClose j code message)) = limit_at s j _ (outgoing_at s j)
+limit_acked s (BlockedFrame (StreamDataBlocked j n)) = limit_at s j _ (outgoing_at s j)
+limit_acked s (BlockedFrame (StreamMoneyBlocked j n t)) = limit_at s j _ (outgoing_at s j)
+limit_acked s (BlockedFrame (ConnectionDataBlocked n)) = refl
+limit_acked s (LimitFrame l) = refl
+limit_acked s (CloseFrame (ConnectionClose code message)) = refl
+limit_acked s (OtherFrame o) = refl
 
 limit_all_acked : (s : Sending) (fs : List Known) → (after_all_acked s (map flown fs)).packet_limit ≡ s.packet_limit
 limit_all_acked s [] = refl

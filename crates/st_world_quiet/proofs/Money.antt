@@ -6,7 +6,7 @@ use Rattle.std.proofs.lemmas.Nat.{le-div}
 use Rattle.std.proofs.lemmas.Bool.{cases_eq, cases_lt}
 use Rattle.std.proofs.lemmas.List.Sums.{sum_by-cons}
 use Rattle.st_oer.specs.Ratios.{Ratio, exchanged, ratio}
-use Rattle.st_frames.specs.Frames.{ConnectionClose, ConnectionDataBlocked, ConnectionMaxData, ConnectionNewAddress, Known, StreamClose, StreamData, StreamDataBlocked, StreamMaxData, StreamMaxMoney, StreamMoney, StreamMoneyBlocked}
+use Rattle.st_frames.specs.Frames.{CloseFrame, ConnectionClose, BlockedFrame, ConnectionDataBlocked, LimitFrame, OtherFrame, Known, StreamClose, StreamData, StreamDataBlocked, StreamMoney, StreamMoneyBlocked}
 use Rattle.st_frames.specs.Told.{money_in, money_of, shares_of}
 use Rattle.st_sender.specs.Sending.{Load, Outgoing, Sending, outgoing_at}
 use Rattle.st_sender.specs.Flights.{flying_least, room_for, due_money, flight_of, flown, flying_money}
@@ -40,15 +40,13 @@ plain x = omega arith
 acked_paid : (k : ℕ) (f : Known) (x : Outgoing) → (own_acked k f x).fulfilled ≡ x.fulfilled + money_of k f
 acked_paid k (StreamData j o xs) x = if_same (nat_eq j k) x (acked_data o (length xs) x) refl
 acked_paid k (StreamMoney j n) x = if_paid (nat_eq j k) x n
-acked_paid k (StreamClose j code message) x = if_same (nat_eq j k) x (acked_close code x) (close_paid (nat_eq code 1) x)
-acked_paid k (StreamDataBlocked j n) x = if_same (nat_eq j k) x _ refl
-acked_paid k (StreamMoneyBlocked j n t) x = if_same (nat_eq j k) x _ refl
-acked_paid k (ConnectionDataBlocked n) x = plain x
-acked_paid k (ConnectionMaxData n) x = plain x
-acked_paid k (StreamMaxData j n) x = plain x
-acked_paid k (StreamMaxMoney j n t) x = plain x
-acked_paid k (ConnectionClose code message) x = plain x
-acked_paid k (ConnectionNewAddress address) x = plain x
+acked_paid k (CloseFrame (StreamClose j code message)) x = if_same (nat_eq j k) x (acked_close code x) (close_paid (nat_eq code 1) x)
+acked_paid k (BlockedFrame (StreamDataBlocked j n)) x = if_same (nat_eq j k) x _ refl
+acked_paid k (BlockedFrame (StreamMoneyBlocked j n t)) x = if_same (nat_eq j k) x _ refl
+acked_paid k (BlockedFrame (ConnectionDataBlocked n)) x = plain x
+acked_paid k (LimitFrame l) x = plain x
+acked_paid k (CloseFrame (ConnectionClose code message)) x = plain x
+acked_paid k (OtherFrame o) x = plain x
 
 pub all_acked_paid : (k : ℕ) (fs : List Known) (x : Outgoing) → (all_own_acked k fs x).fulfilled ≡ x.fulfilled + money_in k fs
 all_acked_paid k [] x = plain x
@@ -100,28 +98,18 @@ IsInSlots f = Unit {0}
 over_streams : (f : Known) → IsInSlots f → sum (map (λ k. money_of k f) (range_with_len 0 65)) ≡ shares_of f
 over_streams (StreamMoney j n) h = one_place j n 0 65 (omega arith) (omega (arith, h))
 over_streams (StreamData j o xs) h = zeros 0 65
-over_streams (StreamClose j code message) h = zeros 0 65
-over_streams (StreamDataBlocked j n) h = zeros 0 65
-over_streams (StreamMoneyBlocked j n t) h = zeros 0 65
-over_streams (ConnectionDataBlocked n) h = zeros 0 65
-over_streams (ConnectionMaxData n) h = zeros 0 65
-over_streams (StreamMaxData j n) h = zeros 0 65
-over_streams (StreamMaxMoney j n t) h = zeros 0 65
-over_streams (ConnectionClose code message) h = zeros 0 65
-over_streams (ConnectionNewAddress address) h = zeros 0 65
+over_streams (CloseFrame c) h = zeros 0 65
+over_streams (BlockedFrame b) h = zeros 0 65
+over_streams (LimitFrame l) h = zeros 0 65
+over_streams (OtherFrame o) h = zeros 0 65
 
 pub in_slots : (s : Sending) (limits : List Known) (f : Known) → length s.streams ≡ 65 → IsDue s limits f → IsInSlots f
 in_slots s limits (StreamMoney j n) l due = let w = slot_within s.streams j due.stream due.is_open in omega (arith, w, l)
 in_slots s limits (StreamData j o xs) l due = tt
-in_slots s limits (StreamClose j code message) l due = tt
-in_slots s limits (StreamDataBlocked j n) l due = tt
-in_slots s limits (StreamMoneyBlocked j n t) l due = tt
-in_slots s limits (ConnectionDataBlocked n) l due = tt
-in_slots s limits (ConnectionMaxData n) l due = tt
-in_slots s limits (StreamMaxData j n) l due = tt
-in_slots s limits (StreamMaxMoney j n t) l due = tt
-in_slots s limits (ConnectionClose code message) l due = tt
-in_slots s limits (ConnectionNewAddress address) l due = tt
+in_slots s limits (CloseFrame c) l due = tt
+in_slots s limits (BlockedFrame b) l due = tt
+in_slots s limits (LimitFrame limit) l due = tt
+in_slots s limits (OtherFrame o) l due = tt
 
 pub all_over_streams : (s : Sending) (limits : List Known) (fs : List Known) → length s.streams ≡ 65 → AllByRecursion (IsDue s limits) fs
     → sum (map (λ k. money_in k fs) (range_with_len 0 65)) ≡ sum_by shares_of fs

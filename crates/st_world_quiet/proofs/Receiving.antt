@@ -7,7 +7,7 @@ use Rattle.std.proofs.Math.Nat.{mul-div_right}
 use Rattle.std.proofs.lemmas.Bool.{cases_eq}
 use Rattle.std.proofs.lemmas.Bool.Decides.{nat_tests}
 use Rattle.st_streams.specs.Slots.{Slots, slot, with_slot}
-use Rattle.st_frames.specs.Frames.{Known, StreamClose, StreamData, StreamMoney}
+use Rattle.st_frames.specs.Frames.{Known, CloseFrame, StreamClose, StreamData, StreamMoney}
 use Rattle.st_reassembly.specs.Held.{is_over, Held}
 use Rattle.st_reassembly.specs.Inserting.{inserted}
 use Rattle.st_reassembly.proofs.Pointwise.{joins_after}
@@ -29,7 +29,7 @@ pub record IsCalm (ends : ℕ → ℕ) (r : Receiving) : Type 0 where
 abbrev pub FrameFits : (ends : ℕ → ℕ) → Receiving → Known → Type 0
 FrameFits ends r (StreamData k o xs) = (may_name r k ≡ true) × (o + length xs ≤ ends k) × (o + length xs ≤ (incoming_at r k).held.read + 65536) × (o + length xs < 2 ^ 64)
 FrameFits ends r (StreamMoney k n) = may_name r k ≡ true
-FrameFits ends r (StreamClose k code message) = may_name r k ≡ true
+FrameFits ends r (CloseFrame (StreamClose k code message)) = may_name r k ≡ true
 FrameFits ends r f = Unit {0}
 
 -- frames open streams, and leave every read count and every abort
@@ -179,7 +179,7 @@ data_calm ends r k o xs calm l =
 frame_calm : (ends : ℕ → ℕ) (r : Receiving) (f : Known) → IsCalm ends r → FrameFits ends r f → IsCalm ends (after_frame r f)
 frame_calm ends r (StreamData k o xs) calm fits = data_calm ends r k o xs calm fits.1
 frame_calm ends r (StreamMoney k n) calm fits = opened_calm ends r k calm
-frame_calm ends r (StreamClose k code message) calm fits = opened_calm ends r k calm
+frame_calm ends r (CloseFrame (StreamClose k code message)) calm fits = opened_calm ends r k calm
 frame_calm ends r f calm fits = calm
 
 pub opened_same : (r : Receiving) → IsOpened r r
@@ -191,13 +191,13 @@ opened_then r t u a b = record { names = λ k may. b.names k (a.names k may); re
 frame_opened : (r : Receiving) (f : Known) → IsOpened r (after_frame r f)
 frame_opened r (StreamData k o xs) = let joins = joins_after o xs (incoming_at r k).held in replaced_opened r k (with_data o xs (incoming_at r k)) joins.read joins.aborted
 frame_opened r (StreamMoney k n) = replaced_opened r k (incoming_at r k) refl refl
-frame_opened r (StreamClose k code message) = replaced_opened r k (incoming_at r k) refl refl
+frame_opened r (CloseFrame (StreamClose k code message)) = replaced_opened r k (incoming_at r k) refl refl
 frame_opened r f = opened_same r
 
 fits_on : (ends : ℕ → ℕ) (r t : Receiving) (f : Known) → IsOpened r t → FrameFits ends r f → FrameFits ends t f
 fits_on ends r t (StreamData k o xs) opened fits = (opened.names k fits.0, fits.1, (let e = opened.reads k in let l = fits.2 in omega (arith, e, l)), fits.3)
 fits_on ends r t (StreamMoney k n) opened fits = opened.names k fits
-fits_on ends r t (StreamClose k code message) opened fits = opened.names k fits
+fits_on ends r t (CloseFrame (StreamClose k code message)) opened fits = opened.names k fits
 fits_on ends r t f opened fits = tt
 
 -- ---- no fault
@@ -233,7 +233,7 @@ data_fine ends r k o xs calm fits =
 frame_fine : (ends : ℕ → ℕ) (r : Receiving) (f : Known) → IsCalm ends r → FrameFits ends r f → frame_fault r f ≡ None
 frame_fine ends r (StreamData k o xs) calm fits = rw (stream_fine r k fits.0) (data_fine ends r k o xs calm fits)
 frame_fine ends r (StreamMoney k n) calm fits = stream_fine r k fits
-frame_fine ends r (StreamClose k code message) calm fits = stream_fine r k fits
+frame_fine ends r (CloseFrame (StreamClose k code message)) calm fits = stream_fine r k fits
 frame_fine ends r f calm fits = refl
 
 all_fit_on : (ends : ℕ → ℕ) (r t : Receiving) (fs : List Known) → IsOpened r t → AllByRecursion (FrameFits ends r) fs → AllByRecursion (FrameFits ends t) fs

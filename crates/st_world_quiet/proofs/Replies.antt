@@ -8,7 +8,7 @@ use Rattle.std.proofs.lemmas.List.{get_or-replicate}
 use Rattle.std.proofs.lemmas.List.Concat.{flat_map-cons}
 use Rattle.std.proofs.lemmas.List.Elements.{Contains-append_cases, Contains-append_left, Contains-append_right}
 use Rattle.st_streams.specs.Slots.{slot}
-use Rattle.st_frames.specs.Frames.{ConnectionMaxData, Known, Packet, StreamData, StreamMaxData, StreamMaxMoney, frames_of, max_packet}
+use Rattle.st_frames.specs.Frames.{LimitFrame, ConnectionMaxData, Known, Packet, StreamData, StreamMaxData, StreamMaxMoney, frames_of, max_packet}
 use Rattle.st_frames.specs.Told.{money_in, names, shares}
 use Rattle.st_sender.specs.Sending.{Load, Outgoing, Sending, outgoing_at}
 use Rattle.st_sender.specs.Flights.{all_ends, end_of, flown, flying_end, highest_end, sent_end}
@@ -44,16 +44,16 @@ in_flat_map f k a (suc m) y from till h =
 in_tail : (x y : Known) (xs : List Known) → Contains xs y → Contains (x ∷ xs) y
 in_tail x y xs (i, l, e) = (suc i, omega arith, e)
 
-pub connection_in_reply : (r : Receiving) (fs : List Known) → Contains (reply_frames r fs) (ConnectionMaxData (connection_limit r))
+pub connection_in_reply : (r : Receiving) (fs : List Known) → Contains (reply_frames r fs) (LimitFrame (ConnectionMaxData (connection_limit r)))
 unfolding reply_frames
 connection_in_reply r fs = (zero, omega arith, refl)
 
-pub window_in_reply : (r : Receiving) (fs : List Known) (k : ℕ) → 1 ≤ k → k ≤ 64 → may_name r k ≡ true → list_any (names k) fs ≡ true → Contains (reply_frames r fs) (StreamMaxData k (capped ((incoming_at r k).held.read + 65536)))
+pub window_in_reply : (r : Receiving) (fs : List Known) (k : ℕ) → 1 ≤ k → k ≤ 64 → may_name r k ≡ true → list_any (names k) fs ≡ true → Contains (reply_frames r fs) (LimitFrame (StreamMaxData k (capped ((incoming_at r k).held.read + 65536))))
 unfolding reply_frames
 window_in_reply r fs k low high may named =
-    in_tail (ConnectionMaxData (connection_limit r)) (StreamMaxData k (capped ((incoming_at r k).held.read + 65536))) _
-    (in_flat_map (named_limits r fs) k 1 64 (StreamMaxData k (capped ((incoming_at r k).held.read + 65536))) low (omega (arith, high))
-    (let P : List Known → Type 0 = λ l. Contains l (StreamMaxData k (capped ((incoming_at r k).held.read + 65536))) in
+    in_tail (LimitFrame (ConnectionMaxData (connection_limit r))) (LimitFrame (StreamMaxData k (capped ((incoming_at r k).held.read + 65536)))) _
+    (in_flat_map (named_limits r fs) k 1 64 (LimitFrame (StreamMaxData k (capped ((incoming_at r k).held.read + 65536)))) low (omega (arith, high))
+    (let P : List Known → Type 0 = λ l. Contains l (LimitFrame (StreamMaxData k (capped ((incoming_at r k).held.read + 65536)))) in
     let is : named_limits r fs k ≡ told_by k (incoming_at r k) = rw (named, may) refl in
     subst P (sym is) (zero, omega arith, refl)))
 
@@ -75,7 +75,7 @@ from_flat_map f a (suc m) y h =
       | inr later ↦ from_flat_map f (a + 1) m y later
     ]
 
-advertised_money : (b c : Bool) (j k m t : ℕ) (x : Incoming) → Contains (cond b (cond c (told_by j x) []) []) (StreamMaxMoney k m t) → (j ≡ k) × (x.receive_max ≡ m) × (x.credited ≡ t)
+advertised_money : (b c : Bool) (j k m t : ℕ) (x : Incoming) → Contains (cond b (cond c (told_by j x) []) []) (LimitFrame (StreamMaxMoney k m t)) → (j ≡ k) × (x.receive_max ≡ m) × (x.credited ≡ t)
 advertised_money true true j k m t x (zero, l, e) = absurd (cc)
 advertised_money true true j k m t x (suc zero, l, e) = (let a : j ≡ k = cc in a, let b : x.receive_max ≡ m = cc in b, let c : x.credited ≡ t = cc in c)
 advertised_money true true j k m t x (suc (suc i), l, e) = absurd (omega (arith, l))
@@ -83,11 +83,11 @@ advertised_money true false j k m t x h = absurd (let l = h.1 in omega (arith, l
 advertised_money false c j k m t x h = absurd (let l = h.1 in omega (arith, l))
 
 -- a receive max in a reply is that of its stream
-money_in_reply : (r : Receiving) (fs : List Known) (k m t : ℕ) → Contains (reply_frames r fs) (StreamMaxMoney k m t) → ((incoming_at r k).receive_max ≡ m) × ((incoming_at r k).credited ≡ t)
+money_in_reply : (r : Receiving) (fs : List Known) (k m t : ℕ) → Contains (reply_frames r fs) (LimitFrame (StreamMaxMoney k m t)) → ((incoming_at r k).receive_max ≡ m) × ((incoming_at r k).credited ≡ t)
 unfolding reply_frames
 money_in_reply r fs k m t (zero, l, e) = absurd (cc)
 money_in_reply r fs k m t (suc i, l, e) =
-    let at = from_flat_map (named_limits r fs) 1 64 (StreamMaxMoney k m t) (i, omega (arith, l), e) in
+    let at = from_flat_map (named_limits r fs) 1 64 (LimitFrame (StreamMaxMoney k m t)) (i, omega (arith, l), e) in
     let is = advertised_money (list_any (names at.0) fs) (may_name r at.0) at.0 k m t (incoming_at r at.0) at.1 in
     (subst (λ j. (incoming_at r j).receive_max ≡ m) is.0 is.1, subst (λ j. (incoming_at r j).credited ≡ t) is.0 is.2)
 

@@ -4,7 +4,7 @@ use Rattle.std.specs.FinMap as fmap
 use Rattle.std.specs.Ordering.{nat_cmp}
 use Rattle.std.specs.List.{AllByRecursion}
 use Rattle.st_streams.specs.Slots.{Slots, slot}
-use Rattle.st_frames.specs.Frames.{Known, StreamClose, StreamData, StreamMoney, max_packet}
+use Rattle.st_frames.specs.Frames.{Known, CloseFrame, StreamClose, StreamData, StreamMoney, max_packet}
 use Rattle.st_frames.specs.Told.{shares}
 use Rattle.st_reassembly.specs.Held.{Held}
 use Rattle.st_reassembly.proofs.Pointwise.{joins_after}
@@ -38,7 +38,7 @@ rest_then r t u a b = record { closed = b.closed ∙ a.closed; fulfilled = b.ful
 frame_rest : (r : Receiving) (f : Known) → SameRest r (after_frame r f)
 frame_rest r (StreamData j o xs) = record { closed = refl; fulfilled = refl }
 frame_rest r (StreamMoney j m) = record { closed = refl; fulfilled = refl }
-frame_rest r (StreamClose j code message) = record { closed = refl; fulfilled = refl }
+frame_rest r (CloseFrame (StreamClose j code message)) = record { closed = refl; fulfilled = refl }
 frame_rest r f = record { closed = refl; fulfilled = refl }
 
 frames_rest : (r : Receiving) (fs : List Known) → SameRest r (after_frames r fs)
@@ -47,7 +47,7 @@ frames_rest r [] = record { closed = refl; fulfilled = refl }
 frames_rest r (f ∷ fs) = rest_then r (after_frame r f) (after_frames (after_frame r f) fs) (frame_rest r f) (frames_rest (after_frame r f) fs)
 
 one_close_rest : (r : Receiving) (f : Known) → SameRest r (after_close r f)
-one_close_rest r (StreamClose j code message) = record { closed = refl; fulfilled = refl }
+one_close_rest r (CloseFrame (StreamClose j code message)) = record { closed = refl; fulfilled = refl }
 one_close_rest r f = record { closed = refl; fulfilled = refl }
 
 closes_rest : (r : Receiving) (fs : List Known) → SameRest r (after_closes r fs)
@@ -68,7 +68,7 @@ closes_credit r [] = refl
 closes_credit r (f ∷ fs) = closes_credit (after_close r f) fs ∙ one r f
   where
     one : (r : Receiving) (f : Known) → (after_close r f).credit ≡ r.credit
-    one r (StreamClose j code message) = refl
+    one r (CloseFrame (StreamClose j code message)) = refl
     one r f = refl
 
 pub effect_credit : (s : Sending) (limits : List Known) (r : Receiving) (amount : ℕ) (fs : List Known) → AllByRecursion (IsDue s limits) fs → (after_all r amount fs).credit ≡ r.credit + amount
@@ -96,7 +96,7 @@ closes_highest r [] k = refl
 closes_highest r (f ∷ fs) k = closes_highest (after_close r f) fs k ∙ one r f
   where
     one : (r : Receiving) (f : Known) → (incoming_at (after_close r f) k).highest ≡ (incoming_at r k).highest
-    one r (StreamClose j code message) = replaced_at (λ x. x.highest) r j (with_close code (incoming_at r j)) k refl
+    one r (CloseFrame (StreamClose j code message)) = replaced_at (λ x. x.highest) r j (with_close code (incoming_at r j)) k refl
     one r f = refl
 
 pub received_is : (r : Receiving) (k : ℕ) → received_of (slot r.streams k) ≡ (incoming_at r k).highest
@@ -140,7 +140,7 @@ closes_end n s limits r [] k x quiet due e left = refl
 closes_end n s limits r (f ∷ fs) k x quiet due e left = closes_end n s limits (after_close r f) fs k x quiet due.1 e left ∙ one f due.0
   where
     one : (f : Known) → IsDue s limits f → (incoming_at (after_close r f) k).held.end ≡ (incoming_at r k).held.end
-    one (StreamClose j code message) due = elim (replaced_here r j (with_close code (incoming_at r j)) k) [
+    one (CloseFrame (StreamClose j code message)) due = elim (replaced_here r j (with_close code (incoming_at r j)) k) [
       | inl is ↦ (let d = due.0 in
           let here : outgoing_at s k ≡ Some d.stream = subst (λ i. outgoing_at s i ≡ Some d.stream) (sym is.0) d.is_open in
           let both : ◌≡◌ {A = Option Outgoing} (Some x) (Some d.stream) = sym e ∙ here in

@@ -4,7 +4,7 @@ use Rattle.std.specs.FinMap as fmap
 use Rattle.std.specs.List.{AllByRecursion}
 use Rattle.std.proofs.lemmas.Bool.{cases_lt}
 use Rattle.std.proofs.lemmas.Bool.Decides.{nat_tests}
-use Rattle.st_frames.specs.Frames.{Known, StreamClose, max_packet}
+use Rattle.st_frames.specs.Frames.{Known, CloseFrame, StreamClose, max_packet}
 use Rattle.st_reassembly.specs.Held.{Held, is_over}
 use Rattle.st_reassembly.specs.Closing.{after_finish, past_all}
 use Rattle.st_reassembly.specs.Run.{past, run}
@@ -52,7 +52,7 @@ finish_stops h stops none = by (is_over h)
     by false = λ m e. let is : past_all h ≡ m = cc in sym is ∙ past_read h none
 
 one_stops : (n : ℕ → ℕ) (s : Sending) (limits : List Known) (r : Receiving) (f : Known) (k : ℕ) → IsQuiet n s → IsDue s limits f → Stops (incoming_at r k).held → IsEmptied (incoming_at r k).held → Stops (incoming_at (after_close r f) k).held
-one_stops n s limits r (StreamClose j code message) k quiet due stops none = elim (replaced_here r j (with_close code (incoming_at r j)) k) [
+one_stops n s limits r (CloseFrame (StreamClose j code message)) k quiet due stops none = elim (replaced_here r j (with_close code (incoming_at r j)) k) [
   | inl is ↦ (let d = due.0 in
       let clean = (clean_asked n s j code d.stream quiet d.is_open d.asked).0 in
       let one = finish_stops (incoming_at r j).held (subst (λ i. Stops (incoming_at r i).held) is.0 stops) (subst (λ i. IsEmptied (incoming_at r i).held) is.0 none) in

@@ -2,7 +2,7 @@
 use Rattle.std.proofs.Common.{◌≡◌, ℕ, ◌+◌, ◌^◌, ◌<◌, ◌≤◌, List, [], ◌∷◌, length, map, max, sum, refl, sym, ap, ◌∙◌, arith, Option, None, Some, slice_index}
 use Rattle.std.specs.List.{range_with_len, AllByRecursion}
 use Rattle.st_streams.specs.Slots.{slot}
-use Rattle.st_frames.specs.Frames.{Known, StreamClose, StreamData, StreamMoney, max_packet}
+use Rattle.st_frames.specs.Frames.{Known, CloseFrame, StreamClose, StreamData, StreamMoney, max_packet}
 use Rattle.st_sender.specs.Sending.{Load, Outgoing, Sending, outgoing_at}
 use Rattle.st_sender.specs.Flights.{end_of, flown, highest_end}
 use Rattle.st_sender.specs.Due.{IsDue}
@@ -96,7 +96,7 @@ frame_fits n s limits p r (StreamData j o xs) quiet sends mirror due low =
     let window = mirror.windows j due.stream due.is_open in
     (mirror.named j due.stream due.is_open, omega (arith, is, end), omega (arith, is, end, told, window), omega (arith, is, end, told, window))
 frame_fits n s limits p r (StreamMoney j m) quiet sends mirror due low = mirror.named j due.stream due.is_open
-frame_fits n s limits p r (StreamClose j code message) quiet sends mirror due low = let d = due.0 in mirror.named j d.stream d.is_open
+frame_fits n s limits p r (CloseFrame (StreamClose j code message)) quiet sends mirror due low = let d = due.0 in mirror.named j d.stream d.is_open
 frame_fits n s limits p r f quiet sends mirror due low = tt
 
 pub all_fit : (n : ℕ → ℕ) (s : Sending) (limits : List Known) (p : Load) (r : Receiving) (fs : List Known) → IsQuiet n s → Sends s limits max_packet p (with_flight s p) → IsMirrored s r

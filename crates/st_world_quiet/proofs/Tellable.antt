@@ -3,7 +3,7 @@ use Rattle.std.proofs.Common.{◌≡◌, ℕ, zero, suc, ◌+◌, ◌*◌, ◌^�
 use Rattle.std.specs.List.{AllByRecursion, flat_map, list_any, range_with_len}
 use Rattle.std.proofs.lemmas.List.Concat.{flat_map-cons}
 use Rattle.st_oer.specs.Spelling.{var_uint}
-use Rattle.st_frames.specs.Frames.{ConnectionMaxData, Known, StreamMaxData, StreamMaxMoney, max_packet}
+use Rattle.st_frames.specs.Frames.{LimitFrame, ConnectionMaxData, Known, StreamMaxData, StreamMaxMoney, max_packet}
 use Rattle.st_frames.specs.Table.{row_of}
 use Rattle.st_frames.specs.Told.{names}
 use Rattle.st_frames.specs.Written.{AllFit, KnownFits, contents_text, frame_text, frames_text, is_unwritable, packet_length}
@@ -55,19 +55,19 @@ writes_joined m n fs gs a b = record {
 capped_fits : (n : ℕ) → capped n < 2 ^ 64
 capped_fits n = omega arith
 
-connection_fits : (v : ℕ) → v < 2 ^ 64 → KnownFits (ConnectionMaxData v)
+connection_fits : (v : ℕ) → v < 2 ^ 64 → KnownFits (LimitFrame (ConnectionMaxData v))
 unfolding KnownFits row_of
 connection_fits v l = (l, tt)
 
-window_fits : (k v : ℕ) → k < 2 ^ 64 → v < 2 ^ 64 → KnownFits (StreamMaxData k v)
+window_fits : (k v : ℕ) → k < 2 ^ 64 → v < 2 ^ 64 → KnownFits (LimitFrame (StreamMaxData k v))
 unfolding KnownFits row_of
 window_fits k v a b = (a, (b, tt))
 
-money_fits : (k m t : ℕ) → k < 2 ^ 64 → m < 2 ^ 64 → t < 2 ^ 64 → KnownFits (StreamMaxMoney k m t)
+money_fits : (k m t : ℕ) → k < 2 ^ 64 → m < 2 ^ 64 → t < 2 ^ 64 → KnownFits (LimitFrame (StreamMaxMoney k m t))
 unfolding KnownFits row_of
 money_fits k m t a b c = (a, (b, (c, tt)))
 
-connection_short : (v : ℕ) → length (frame_text (ConnectionMaxData v)) ≤ 40
+connection_short : (v : ℕ) → length (frame_text (LimitFrame (ConnectionMaxData v))) ≤ 40
 unfolding frame_text contents_text
 connection_short v =
     let u = var_uint_small v in
@@ -75,7 +75,7 @@ connection_short v =
     let all = octets_short (var_uint v ++ []) (omega (arith, u, e)) in
     omega (arith, u, e, all)
 
-window_short : (k v : ℕ) → length (frame_text (StreamMaxData k v)) ≤ 40
+window_short : (k v : ℕ) → length (frame_text (LimitFrame (StreamMaxData k v))) ≤ 40
 unfolding frame_text contents_text
 window_short k v =
     let a = var_uint_small k in
@@ -85,7 +85,7 @@ window_short k v =
     let all = octets_short (var_uint k ++ (var_uint v ++ [])) (omega (arith, a, b, e, f)) in
     omega (arith, a, b, e, f, all)
 
-money_max_short : (k m t : ℕ) → length (frame_text (StreamMaxMoney k m t)) ≤ 40
+money_max_short : (k m t : ℕ) → length (frame_text (LimitFrame (StreamMaxMoney k m t))) ≤ 40
 unfolding frame_text contents_text
 money_max_short k m t =
     let a = var_uint_small k in
@@ -121,7 +121,7 @@ all_write f a (suc m) each =
 pub reply_writes : (r : Receiving) (fs : List Known) → ((k : ℕ) → k < 65 → ((incoming_at r k).receive_max < 2 ^ 64) × ((incoming_at r k).credited < 2 ^ 64)) → Writes 5160 (reply_frames r fs)
 unfolding reply_frames
 reply_writes r fs h =
-    writes_more 5120 (ConnectionMaxData (connection_limit r)) (flat_map (named_limits r fs) (range_with_len 1 64)) (connection_fits (connection_limit r) (capped_fits _)) refl (connection_short (connection_limit r))
+    writes_more 5120 (LimitFrame (ConnectionMaxData (connection_limit r))) (flat_map (named_limits r fs) (range_with_len 1 64)) (connection_fits (connection_limit r) (capped_fits _)) refl (connection_short (connection_limit r))
     (all_write (named_limits r fs) 1 64 (λ k l. (let at = h k (omega (arith, l)) in writes_if (list_any (names k) fs) (may_name r k) (told_by k (incoming_at r k)) (told_writes k (incoming_at r k) (omega (arith, l)) at.0 at.1))))
 
 -- and so its packet has room

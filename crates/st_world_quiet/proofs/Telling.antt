@@ -6,7 +6,7 @@ use Rattle.std.proofs.lemmas.Bool.{cases_eq}
 use Rattle.std.proofs.lemmas.Bool.Decides.{nat_tests}
 use Rattle.std.proofs.lemmas.List.{length-set}
 use Rattle.st_streams.specs.Slots.{slot}
-use Rattle.st_frames.specs.Frames.{ConnectionClose, ConnectionDataBlocked, ConnectionMaxData, ConnectionNewAddress, Known, StreamClose, StreamData, StreamDataBlocked, StreamMaxData, StreamMaxMoney, StreamMoney, StreamMoneyBlocked}
+use Rattle.st_frames.specs.Frames.{CloseFrame, ConnectionClose, BlockedFrame, ConnectionDataBlocked, LimitFrame, ConnectionMaxData, OtherFrame, Known, StreamClose, StreamData, StreamDataBlocked, StreamMaxData, StreamMaxMoney, StreamMoney, StreamMoneyBlocked}
 use Rattle.st_sender.specs.Sending.{Marks, Outgoing, Sending, changed_at, outgoing_at}
 use Rattle.st_sender.specs.Flights.{flown}
 use Rattle.st_sender.specs.Due.{IsDue}
@@ -18,8 +18,8 @@ use Rattle.st_world_quiet.proofs.Lowering.{no_limit_due, no_slot}
 -- ---- a stream after limits were advertised
 
 abbrev pub own_told : ℕ → Known → Outgoing → Outgoing
-own_told k (StreamMaxData j m) x = cond (nat_eq j k) (told_data m x) x
-own_told k (StreamMaxMoney j m t) x = cond (nat_eq j k) (advertised_receive_max m t x) x
+own_told k (LimitFrame (StreamMaxData j m)) x = cond (nat_eq j k) (told_data m x) x
+own_told k (LimitFrame (StreamMaxMoney j m t)) x = cond (nat_eq j k) (advertised_receive_max m t x) x
 own_told k f x = x
 
 abbrev pub all_own_told : ℕ → List Known → Outgoing → Outgoing
@@ -27,34 +27,28 @@ all_own_told k [] x = x
 all_own_told k (f ∷ fs) x = all_own_told k fs (own_told k f x)
 
 told_at : (s : Sending) (k : ℕ) (f : Known) (x : Outgoing) → outgoing_at s k ≡ Some x → outgoing_at (after_told s f) k ≡ Some (own_told k f x)
-told_at s k (StreamMaxData j m) x e = own_change s j k (told_data m) x e
-told_at s k (StreamMaxMoney j m t) x e = own_change s j k (advertised_receive_max m t) x e
-told_at s k (ConnectionMaxData v) x e = e
+told_at s k (LimitFrame (StreamMaxData j m)) x e = own_change s j k (told_data m) x e
+told_at s k (LimitFrame (StreamMaxMoney j m t)) x e = own_change s j k (advertised_receive_max m t) x e
+told_at s k (LimitFrame (ConnectionMaxData v)) x e = e
 told_at s k (StreamData j o xs) x e = e
 told_at s k (StreamMoney j n) x e = e
-told_at s k (StreamClose j code message) x e = e
-told_at s k (StreamDataBlocked j n) x e = e
-told_at s k (StreamMoneyBlocked j n t) x e = e
-told_at s k (ConnectionDataBlocked n) x e = e
-told_at s k (ConnectionClose code message) x e = e
-told_at s k (ConnectionNewAddress address) x e = e
+told_at s k (CloseFrame c) x e = e
+told_at s k (BlockedFrame b) x e = e
+told_at s k (OtherFrame o) x e = e
 
 pub all_told_at : (s : Sending) (k : ℕ) (fs : List Known) (x : Outgoing) → outgoing_at s k ≡ Some x → outgoing_at (after_all_told s fs) k ≡ Some (all_own_told k fs x)
 all_told_at s k [] x e = e
 all_told_at s k (f ∷ fs) x e = all_told_at (after_told s f) k fs (own_told k f x) (told_at s k f x e)
 
 none_told : (s : Sending) (k : ℕ) (f : Known) → outgoing_at s k ≡ None → outgoing_at (after_told s f) k ≡ None
-none_told s k (StreamMaxData j m) e = none_changed s j k (told_data m) e
-none_told s k (StreamMaxMoney j m t) e = none_changed s j k (advertised_receive_max m t) e
-none_told s k (ConnectionMaxData v) e = e
+none_told s k (LimitFrame (StreamMaxData j m)) e = none_changed s j k (told_data m) e
+none_told s k (LimitFrame (StreamMaxMoney j m t)) e = none_changed s j k (advertised_receive_max m t) e
+none_told s k (LimitFrame (ConnectionMaxData v)) e = e
 none_told s k (StreamData j o xs) e = e
 none_told s k (StreamMoney j n) e = e
-none_told s k (StreamClose j code message) e = e
-none_told s k (StreamDataBlocked j n) e = e
-none_told s k (StreamMoneyBlocked j n t) e = e
-none_told s k (ConnectionDataBlocked n) e = e
-none_told s k (ConnectionClose code message) e = e
-none_told s k (ConnectionNewAddress address) e = e
+none_told s k (CloseFrame c) e = e
+none_told s k (BlockedFrame b) e = e
+none_told s k (OtherFrame o) e = e
 
 pub none_stays_told : (s : Sending) (k : ℕ) (fs : List Known) → outgoing_at s k ≡ None → outgoing_at (after_all_told s fs) k ≡ None
 none_stays_told s k [] e = e
@@ -97,8 +91,8 @@ only_money true m t x = record { accepted = refl; unacked = refl; acked_end = re
 only_money false m t x = only_same x
 
 told_only : (k : ℕ) (f : Known) (x : Outgoing) → IsToldOnly x (own_told k f x)
-told_only k (StreamMaxData j m) x = only_data (nat_eq j k) m x
-told_only k (StreamMaxMoney j m t) x = only_money (nat_eq j k) m t x
+told_only k (LimitFrame (StreamMaxData j m)) x = only_data (nat_eq j k) m x
+told_only k (LimitFrame (StreamMaxMoney j m t)) x = only_money (nat_eq j k) m t x
 told_only k f x = only_same x
 
 pub all_told_only : (k : ℕ) (fs : List Known) (x : Outgoing) → IsToldOnly x (all_own_told k fs x)
@@ -106,7 +100,7 @@ all_told_only k [] x = only_same x
 all_told_only k (f ∷ fs) x = only_then x (own_told k f x) (all_own_told k fs (own_told k f x)) (told_only k f x) (all_told_only k fs (own_told k f x))
 
 -- a stream's window is at least each that is advertised
-pub window_told : (k v : ℕ) (fs : List Known) (x : Outgoing) → Contains fs (StreamMaxData k v) → v ≤ (all_own_told k fs x).told
+pub window_told : (k v : ℕ) (fs : List Known) (x : Outgoing) → Contains fs (LimitFrame (StreamMaxData k v)) → v ≤ (all_own_told k fs x).told
 window_told k v [] x h = absurd (let l = h.1 in omega (arith, l))
 window_told k v (f ∷ fs) x (zero, l, e) =
     let first : v ≤ (own_told k f x).told = subst (λ g. v ≤ (own_told k g x).told) (sym e) (let b = is_same k k refl in rw b (omega arith)) in
@@ -119,7 +113,7 @@ abbrev pub LeavesRoom : (offered fulfilled : ℕ) → Option (ℕ × ℕ) → Ty
 LeavesRoom offered fulfilled o = (told : ℕ × ℕ) → o ≡ Some told → told.1 + offered ≤ told.0 + fulfilled
 
 abbrev pub FrameLeavesRoom : (k offered fulfilled : ℕ) → Known → Type 0
-FrameLeavesRoom k offered fulfilled f = (m t : ℕ) → f ≡ StreamMaxMoney k m t → t + offered ≤ m + fulfilled
+FrameLeavesRoom k offered fulfilled f = (m t : ℕ) → f ≡ LimitFrame (StreamMaxMoney k m t) → t + offered ≤ m + fulfilled
 
 room_raised : (offered fulfilled : ℕ) (o : Option (ℕ × ℕ)) (m t : ℕ) → t + offered ≤ m + fulfilled → LeavesRoom offered fulfilled o → LeavesRoom offered fulfilled (raised_money o m t)
 room_raised offered fulfilled None m t a h told e = let is : (m, t) ≡ told = cc in subst (λ (z : ℕ × ℕ). z.1 + offered ≤ z.0 + fulfilled) is a
@@ -140,9 +134,9 @@ data_if true offered fulfilled m x room = room
 data_if false offered fulfilled m x room = room
 
 own_room : (k offered fulfilled : ℕ) (f : Known) (x : Outgoing) → FrameLeavesRoom k offered fulfilled f → LeavesRoom offered fulfilled x.advertised_money → LeavesRoom offered fulfilled (own_told k f x).advertised_money
-own_room k offered fulfilled (StreamMaxData j m) x h room = data_if (nat_eq j k) offered fulfilled m x room
-own_room k offered fulfilled (StreamMaxMoney j m t) x h room = elim (cases_eq j k) [
-  | inl same ↦ money_if (nat_eq j k) offered fulfilled m t x (λ b. h m t (ap (λ i. StreamMaxMoney i m t) same)) room
+own_room k offered fulfilled (LimitFrame (StreamMaxData j m)) x h room = data_if (nat_eq j k) offered fulfilled m x room
+own_room k offered fulfilled (LimitFrame (StreamMaxMoney j m t)) x h room = elim (cases_eq j k) [
+  | inl same ↦ money_if (nat_eq j k) offered fulfilled m t x (λ b. h m t (ap (λ i. LimitFrame (StreamMaxMoney i m t)) same)) room
   | inr apart ↦ money_if (nat_eq j k) offered fulfilled m t x (λ b. absurd (apart (eq_true j k b))) room
 ]
   where
@@ -188,23 +182,20 @@ rest_changed s j f None = rest_same s
 rest_changed s j f (Some x) = record { config = refl; flights = refl; last = refl; marks = refl; packet_limit = refl; failed = refl; slots = length-set s.streams j (Some (f x)); told = omega arith }
 
 rest_told : (s : Sending) (f : Known) → IsSameRest s (after_told s f)
-rest_told s (StreamMaxData j m) = rest_changed s j (told_data m) (outgoing_at s j)
-rest_told s (StreamMaxMoney j m t) = rest_changed s j (advertised_receive_max m t) (outgoing_at s j)
-rest_told s (ConnectionMaxData v) = record { config = refl; flights = refl; last = refl; marks = refl; packet_limit = refl; failed = refl; slots = refl; told = omega arith }
+rest_told s (LimitFrame (StreamMaxData j m)) = rest_changed s j (told_data m) (outgoing_at s j)
+rest_told s (LimitFrame (StreamMaxMoney j m t)) = rest_changed s j (advertised_receive_max m t) (outgoing_at s j)
+rest_told s (LimitFrame (ConnectionMaxData v)) = record { config = refl; flights = refl; last = refl; marks = refl; packet_limit = refl; failed = refl; slots = refl; told = omega arith }
 rest_told s (StreamData j o xs) = rest_same s
 rest_told s (StreamMoney j n) = rest_same s
-rest_told s (StreamClose j code message) = rest_same s
-rest_told s (StreamDataBlocked j n) = rest_same s
-rest_told s (StreamMoneyBlocked j n t) = rest_same s
-rest_told s (ConnectionDataBlocked n) = rest_same s
-rest_told s (ConnectionClose code message) = rest_same s
-rest_told s (ConnectionNewAddress address) = rest_same s
+rest_told s (CloseFrame c) = rest_same s
+rest_told s (BlockedFrame b) = rest_same s
+rest_told s (OtherFrame o) = rest_same s
 
 pub rest_all_told : (s : Sending) (fs : List Known) → IsSameRest s (after_all_told s fs)
 rest_all_told s [] = rest_same s
 rest_all_told s (f ∷ fs) = rest_then s (after_told s f) (after_all_told (after_told s f) fs) (rest_told s f) (rest_all_told (after_told s f) fs)
 
-pub connection_advertised : (v : ℕ) (fs : List Known) (s : Sending) → Contains fs (ConnectionMaxData v) → v ≤ (after_all_told s fs).told
+pub connection_advertised : (v : ℕ) (fs : List Known) (s : Sending) → Contains fs (LimitFrame (ConnectionMaxData v)) → v ≤ (after_all_told s fs).told
 connection_advertised v [] s h = absurd (let l = h.1 in omega (arith, l))
 connection_advertised v (f ∷ fs) s (zero, l, e) =
     let first : v ≤ (after_told s f).told = subst (λ g. v ≤ (after_told s g).told) (sym e) (omega arith) in
@@ -216,15 +207,15 @@ connection_advertised v (f ∷ fs) s (suc i, l, e) = connection_advertised v fs 
 rest_acked : (n : ℕ → ℕ) (q s : Sending) (limits : List Known) (f : Known) → IsQuiet n q → IsDue q limits f → IsSameRest s (after_acked s (flown f))
 rest_acked n q s limits (StreamData j o xs) quiet due = rest_changed s j _ (outgoing_at s j)
 rest_acked n q s limits (StreamMoney j m) quiet due = rest_changed s j _ (outgoing_at s j)
-rest_acked n q s limits (StreamClose j code message) quiet due = rest_changed s j _ (outgoing_at s j)
-rest_acked n q s limits (StreamDataBlocked j m) quiet due = rest_changed s j _ (outgoing_at s j)
-rest_acked n q s limits (StreamMoneyBlocked j m t) quiet due = rest_changed s j _ (outgoing_at s j)
-rest_acked n q s limits (ConnectionDataBlocked m) quiet due = record { config = refl; flights = refl; last = refl; marks = refl; packet_limit = refl; failed = refl; slots = refl; told = omega arith }
-rest_acked n q s limits (ConnectionMaxData v) quiet due = absurd (no_limit_due q limits v q.marks.connection (ConnectionMaxData v) (ap (λ (m : Marks). m.connection) quiet.unmarked) due)
-rest_acked n q s limits (StreamMaxData k v) quiet due = absurd (no_limit_due q limits v (slot q.marks.offsets k) (StreamMaxData k v) (ap (λ (m : Marks). slot m.offsets k) quiet.unmarked ∙ no_slot k) due)
-rest_acked n q s limits (StreamMaxMoney k v t) quiet due = absurd (no_limit_due q limits v (slot q.marks.money k) (StreamMaxMoney k v t) (ap (λ (m : Marks). slot m.money k) quiet.unmarked ∙ no_slot k) due)
-rest_acked n q s limits (ConnectionClose code message) quiet due = absurd due
-rest_acked n q s limits (ConnectionNewAddress address) quiet due = absurd due
+rest_acked n q s limits (CloseFrame (StreamClose j code message)) quiet due = rest_changed s j _ (outgoing_at s j)
+rest_acked n q s limits (BlockedFrame (StreamDataBlocked j m)) quiet due = rest_changed s j _ (outgoing_at s j)
+rest_acked n q s limits (BlockedFrame (StreamMoneyBlocked j m t)) quiet due = rest_changed s j _ (outgoing_at s j)
+rest_acked n q s limits (BlockedFrame (ConnectionDataBlocked m)) quiet due = record { config = refl; flights = refl; last = refl; marks = refl; packet_limit = refl; failed = refl; slots = refl; told = omega arith }
+rest_acked n q s limits (LimitFrame (ConnectionMaxData v)) quiet due = absurd (no_limit_due q limits v q.marks.connection (LimitFrame (ConnectionMaxData v)) (ap (λ (m : Marks). m.connection) quiet.unmarked) due)
+rest_acked n q s limits (LimitFrame (StreamMaxData k v)) quiet due = absurd (no_limit_due q limits v (slot q.marks.offsets k) (LimitFrame (StreamMaxData k v)) (ap (λ (m : Marks). slot m.offsets k) quiet.unmarked ∙ no_slot k) due)
+rest_acked n q s limits (LimitFrame (StreamMaxMoney k v t)) quiet due = absurd (no_limit_due q limits v (slot q.marks.money k) (LimitFrame (StreamMaxMoney k v t)) (ap (λ (m : Marks). slot m.money k) quiet.unmarked ∙ no_slot k) due)
+rest_acked n q s limits (CloseFrame (ConnectionClose code message)) quiet due = absurd due
+rest_acked n q s limits (OtherFrame o) quiet due = absurd due
 
 pub rest_all_acked : (n : ℕ → ℕ) (q s : Sending) (limits : List Known) (fs : List Known) → IsQuiet n q → AllByRecursion (IsDue q limits) fs → IsSameRest s (after_all_acked s (map flown fs))
 rest_all_acked n q s limits [] quiet due = rest_same s

@@ -13,7 +13,7 @@ use Rattle.st_oer.specs.Address.{is_address}
 use Rattle.st_ilp.specs.Moments.{IsMoment}
 use Rattle.st_ilp.specs.Spelling.{prepare_kind, prepare_text}
 use Rattle.st_ilp.specs.Laws.{IsPrepare}
-use Rattle.st_frames.specs.Frames.{Known, StreamClose, StreamData, max_packet}
+use Rattle.st_frames.specs.Frames.{Known, CloseFrame, StreamClose, StreamData, max_packet}
 use Rattle.st_frames.specs.Table.{row_of}
 use Rattle.st_frames.specs.Told.{shares_of}
 use Rattle.st_frames.specs.Written.{KnownFits, packet_text, written}
@@ -224,7 +224,7 @@ module _ (n : ℕ → ℕ) (e : EndState) (k : ℕ) (x : Outgoing) (quiet : IsQu
   iv = replicate 12 0
 
   abbrev load : Load
-  load = load_with e.sending (StreamClose k 1 [] ∷ [])
+  load = load_with e.sending ((CloseFrame (StreamClose k 1 [])) ∷ [])
 
   abbrev text : List ℕ
   text = packet_text prepare_kind load.sequence load.least load.frames
@@ -242,13 +242,13 @@ module _ (n : ℕ → ℕ) (e : EndState) (k : ℕ) (x : Outgoing) (quiet : IsQu
   unfolding sealed_packet written
   is_sealed = ap (λ b. sealed_text e.keys iv (cond b (Err TooLong) (Ok text))) (le-ltb max_packet (length text) short)
 
-  frame_fits : KnownFits (StreamClose k 1 [])
+  frame_fits : KnownFits (CloseFrame (StreamClose k 1 []))
   unfolding KnownFits row_of
   frame_fits = (small, (omega arith, (is_utf8-from_IsUtf8 [] (IsUtf8-from_ascii [] (λ i. omega arith)), tt)))
 
   prepare_is : IsPrepare (prepare_for e (pos 0) load.amount payload)
   prepare_is = record {
-    amount = (let none = sum_by-cons shares_of (StreamClose k 1 []) [] in omega (arith, none));
+    amount = (let none = sum_by-cons shares_of (CloseFrame (StreamClose k 1 [])) [] in omega (arith, none));
     expiry = refl;
     condition = (condition_is (fulfillment e.keys payload)).count;
     destination = address;

@@ -4,7 +4,7 @@ use Rattle.std.specs.List.{AllByRecursion, list_any}
 use Rattle.std.specs.FinMap.{get}
 use Rattle.std.specs.declared.option.Option.TheVariants.{None, Some}
 use Rattle.st_streams.specs.Slots.{slot}
-use Rattle.st_frames.specs.Frames.{Known, Packet, StreamClose, StreamMaxData, frames_of, max_packet}
+use Rattle.st_frames.specs.Frames.{Known, Packet, CloseFrame, StreamClose, LimitFrame, StreamMaxData, frames_of, max_packet}
 use Rattle.st_frames.specs.Told.{money_in, names, shares}
 use Rattle.st_reassembly.specs.Held.{Held, after_insert}
 use Rattle.st_reassembly.specs.Run.{IsRun, run}
@@ -73,7 +73,7 @@ ACloseIsSent =
     → all_money_left s ≡ 0
     → outgoing_at s k ≡ Some x
     → x.clean_settled ≡ false
-    → (let p = load_with s (StreamClose k 1 [] ∷ []) in
+    → (let p = load_with s ((CloseFrame (StreamClose k 1 [])) ∷ []) in
     Sends s limits max_packet p (with_flight s p) × Fills s limits max_packet p)
 
 -- what a peer advertises of a small packet suffices for the next Send
@@ -121,7 +121,7 @@ ReplyTellsWindow =
     → k ≤ 64
     → may_name r k ≡ true
     → list_any (names k) fs ≡ true
-    → Contains (reply_frames r fs) (StreamMaxData k (capped ((incoming_at r k).held.read + 65536)))
+    → Contains (reply_frames r fs) (LimitFrame (StreamMaxData k (capped ((incoming_at r k).held.read + 65536))))
 
 -- a level receiver finds no fault in a packet
 abbrev pub LoadIsFulfilled : Type 0

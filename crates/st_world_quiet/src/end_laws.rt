@@ -3,7 +3,7 @@
 
 ghost use Rattle.std.specs.Prelude.{◌≡◌, ℕ, ◌+◌, ◌<◌, List, length, sum, Contains};
 ghost use Rattle.std.specs.declared.option.Option.TheVariants.{Some};
-ghost use Rattle.st_frames.specs.Frames.{ConnectionMaxData, Known, max_packet};
+ghost use Rattle.st_frames.specs.Frames.{LimitFrame, ConnectionMaxData, Known, max_packet};
 ghost use Rattle.st_reassembly.specs.Run.{run};
 ghost use Rattle.st_sender.specs.Sending.{Outgoing, Sending, outgoing_at};
 ghost use Rattle.st_sender.specs.Loads.{IsIdle};
@@ -53,7 +53,7 @@ pub fn a_load_breaks_no_rule()
 
 /// A reply has the connection's limit, and the window of each stream that a frame of the request names.
 pub fn a_reply_tells_each_window()
-    ensures connection { (r : Receiving) (fs : List Known) → Contains (reply_frames r fs) (ConnectionMaxData (connection_limit r)) }
+    ensures connection { (r : Receiving) (fs : List Known) → Contains (reply_frames r fs) (LimitFrame (ConnectionMaxData (connection_limit r))) }
     ensures window { ReplyTellsWindow }
 {}
 

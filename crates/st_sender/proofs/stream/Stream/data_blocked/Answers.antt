@@ -1,6 +1,6 @@
 use Rattle.std.proofs.Common.{◌≤◌, ◌-◌, ◌∙◌, ℕ, [], ◌∷◌, sym, ap, subst, arith}
 use Rattle.std.specs.Prelude.{IsSome}
-use Rattle.st_frames.specs.Frames.{StreamDataBlocked}
+use Rattle.st_frames.specs.Frames.{BlockedFrame, StreamDataBlocked}
 use Rattle.st_frames.specs.Written.{packet_length}
 use Rattle.st_sender.specs.declared.notice.Notice.TheVariants as said
 use Rattle.st_sender.specs.Due.{was_blocked}
@@ -19,6 +19,6 @@ returns g c =
         told = ap (λ (l : SendStream). l.out.told) seen;
         first = ap (λ (l : SendStream). was_blocked l.out.blocked told) (sym seen) ∙ sym c.was_blocked.ensures ∙ c.if-was_blocked.false;
         waits = byte_beyond c.args.self.now end told (λ h. subst (λ (l : SendStream). IsSome (due_in l (end - 1))) seen (c.past_due.ensures.last h)) (omega (arith, c.if-past_due-self.false));
-        short = subst (λ (i : ℕ). packet_length c.args.bounds.sequence 0 (StreamDataBlocked i told ∷ []) ≤ c.args.bounds.room) c.from.ensures (omega (arith, c.notice_size.ensures, c.if-notice_size-bounds.false));
+        short = subst (λ (i : ℕ). packet_length c.args.bounds.sequence 0 ((BlockedFrame (StreamDataBlocked i told)) ∷ []) ≤ c.args.bounds.room) c.from.ensures (omega (arith, c.notice_size.ensures, c.if-notice_size-bounds.false));
       },
     )
