@@ -5,7 +5,7 @@ use Rattle.std.specs.FinMap as fmap
 use Rattle.std.proofs.lemmas.Bool.Decides.{nat_tests}
 use Rattle.std.proofs.lemmas.Grind.{common_steps}
 use Rattle.std.proofs.lemmas.Option.{slice_get_within}
-use Rattle.st_frames.specs.Frames.{Known, CloseFrame, ConnectionClose, OtherFrame, ConnectionNewAddress, LimitFrame, ConnectionMaxData, BlockedFrame, ConnectionDataBlocked, StreamClose, StreamMoney, StreamMaxMoney, StreamMoneyBlocked, StreamData, StreamMaxData, StreamDataBlocked, Packet, frames_of}
+use Rattle.st_frames.specs.Frames.{Known, CloseFrame, ConnectionClose, OtherFrame, LimitFrame, BlockedFrame, StreamClose, StreamMoney, StreamData, Packet, frames_of}
 use Rattle.st_reassembly.specs.Held.{Held, after_insert, is_over}
 use Rattle.st_reassembly.specs.Closing.{past_all, after_finish, after_abort}
 use Rattle.st_sender.specs.Sending.{Sending, Outgoing, SentFrame, Data, Whole, outgoing_at}
@@ -284,14 +284,10 @@ frame_good l r (StreamData k o xs) wide none h w =
     data_good l r k o xs (rw wide small) h w
 frame_good l r (StreamMoney k n) wide none h w = open_good l r k (StreamMoney k n) tt h
 frame_good l r (CloseFrame (StreamClose k code message)) wide none h w = open_good l r k (CloseFrame (StreamClose k code message)) tt h
-frame_good l r (BlockedFrame (StreamDataBlocked k n)) wide none h w = same_good l r (BlockedFrame (StreamDataBlocked k n)) tt h
-frame_good l r (BlockedFrame (StreamMoneyBlocked k n u)) wide none h w = same_good l r (BlockedFrame (StreamMoneyBlocked k n u)) tt h
-frame_good l r (BlockedFrame (ConnectionDataBlocked n)) wide none h w = same_good l r (BlockedFrame (ConnectionDataBlocked n)) tt h
-frame_good l r (LimitFrame (ConnectionMaxData n)) wide none h w = same_good l r (LimitFrame (ConnectionMaxData n)) tt h
-frame_good l r (LimitFrame (StreamMaxData k n)) wide none h w = same_good l r (LimitFrame (StreamMaxData k n)) tt h
-frame_good l r (LimitFrame (StreamMaxMoney k n u)) wide none h w = same_good l r (LimitFrame (StreamMaxMoney k n u)) tt h
+frame_good l r (BlockedFrame b) wide none h w = same_good l r (BlockedFrame b) tt h
+frame_good l r (LimitFrame limit) wide none h w = same_good l r (LimitFrame limit) tt h
 frame_good l r (CloseFrame (ConnectionClose code message)) wide none h w = same_good l r (CloseFrame (ConnectionClose code message)) tt h
-frame_good l r (OtherFrame (ConnectionNewAddress address)) wide none h w = same_good l r (OtherFrame (ConnectionNewAddress address)) tt h
+frame_good l r (OtherFrame o) wide none h w = same_good l r (OtherFrame o) tt h
 
 frames_good : (l : ℕ → StreamLog) (fs : List Known) (r : Receiving) → length r.streams ≡ 65 → frames_fault r fs ≡ None → RecvWhole l r → FramesFine (λ k. (l k).written) fs → Good l r fs (after_frames r fs)
 unfolding frames_fault after_frames
