@@ -5,10 +5,8 @@
 
 ghost use Rattle.std.specs.Prelude.{◌≡◌, ℕ, ◌+◌, ◌*◌, ◌/◌, ◌%◌, ◌^◌, ◌<◌, ◌≤◌, ◌==◌, if◌then◌else◌, bit_xor, length, slice_index};
 ghost use Rattle.std.specs.Simd.Lanes.{chunk};
-ghost use Rattle.st_aes.specs.BlockField.{product};
-ghost use Rattle.st_aes.specs.Gcm.{block_of, block_number};
 ghost use Rattle.st_aes.specs.Planes.{plane};
-ghost use Rattle.st_aes.specs.Rows.{cell, block_in, added_byte, HasTables};
+ghost use Rattle.st_aes.specs.Rows.{cell, added_byte, HasTables, AddsProducts};
 
 use crate::wide_planes::of_bytes;
 use std::simd::{u8x16, u8x32};
@@ -114,7 +112,7 @@ pub(crate) fn with_products(t: &Tables, rows: &Rows, start: Rows) -> Rows
     requires start { (k l : ℕ) → k < 8 → slice_index (plane start k) l < 256 }
     requires rows { (k l : ℕ) → k < 8 → slice_index (plane rows.now k) l < 256 }
     ensures bytes { (k l : ℕ) → k < 8 → slice_index (plane result k) l < 256 }
-    ensures sum { (y : ℕ) → y < 2 ^ 128 → HasTables t.now y → (j : ℕ) → j < 16 → block_number (block_in result j) ≡ bit_xor (block_number (block_in start j)) (product (block_number (block_in rows.now j)) y) }
+    ensures sum { (y : ℕ) → y < 2 ^ 128 → HasTables t.now y → AddsProducts y start rows.now result }
 {
     let mut acc = start;
     'front: for k in 0..8usize {

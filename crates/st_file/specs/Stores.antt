@@ -6,6 +6,8 @@ use Rattle.st_file.specs.Errors.{counted}
 use Rattle.st_file.specs.Sources.{Given}
 use Rattle.st_file.specs.declared.error.FileError.{FileError}
 use Rattle.st_file.specs.declared.error.FileError.TheVariants.{ReadFault, WriteFault, Aborted, Turns, NoMemory, Closed}
+use Rattle.st_devices.specs.declared.counted.Counting.{Counting}
+use Rattle.st_devices.specs.Tallies.{device_of}
 
 -- a writer's bytes before and after, and what a source had given before and after
 pub record Storing : Type 0 where
@@ -13,6 +15,11 @@ pub record Storing : Type 0 where
   pub after : Option (List ℕ)
   pub old : Given
   pub new : Given
+
+-- what a device had and has by `contents`, and what a source had given and has given by `given`
+abbrev pub storing_of : {D S : Type 0} → (contents : D → Option (List ℕ)) → (given : S → Given) → (writer_old writer_new : Counting D) → (old new : S) → Storing
+storing_of contents given writer_old writer_new old new =
+    record { before = contents (device_of writer_old); after = contents (device_of writer_new); old = given old; new = given new }
 
 -- n bytes of the source were written, and these others were given and not written
 abbrev pub Stored : Storing → ℕ → List ℕ → Type 0

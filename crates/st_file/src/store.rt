@@ -4,7 +4,7 @@ ghost use Rattle.std.specs.Prelude.{◌≡◌, ◌<◌, true, OnOk, IfOk, IfErr,
 ghost use Rattle.std.specs.Io.KnownBytes.{Keeps};
 ghost use Rattle.st_file.specs.Errors.{IsTurns, faults_told};
 ghost use Rattle.st_file.specs.Spending.{SpendsTurns, TakesAsks};
-ghost use Rattle.st_file.specs.Stores.{ExplainsStore, Flushes, GivesNext, StoredAll, WritesPiece};
+ghost use Rattle.st_file.specs.Stores.{ExplainsStore, Flushes, GivesNext, StoredAll, WritesPiece, storing_of};
 ghost use Rattle.st_devices.specs.Tallies.{TakesTurns, device_of, tally_of};
 
 use crate::error::FileError;
@@ -100,9 +100,9 @@ pub fn store_all<S: Source<A>, W: Write, A: Allocator + Copy>(
     writer: &mut Counting<W>,
     turns: u64,
 ) -> Result<u64, FileError>
-    ensures all { IfOk result (StoredAll (record { before = W.contents (device_of writer.old); after = W.contents (device_of writer.new); old = S.given source.old; new = S.given source.new })) }
+    ensures all { IfOk result (StoredAll (storing_of W.contents S.given writer.old writer.new source.old source.new)) }
     ensures flushed { OnOk result ((tally_of writer.new).flushed ≡ true) }
-    ensures why { IfErr result (ExplainsStore (record { before = W.contents (device_of writer.old); after = W.contents (device_of writer.new); old = S.given source.old; new = S.given source.new })) }
+    ensures why { IfErr result (ExplainsStore (storing_of W.contents S.given writer.old writer.new source.old source.new)) }
     ensures faults { (tally_of writer.new).faults ≡ faults_told result (tally_of writer.old).faults }
     ensures turns { SpendsTurns result (tally_of writer.old) (tally_of writer.new) (S.given source.old).calls (S.given source.new).calls turns }
 {

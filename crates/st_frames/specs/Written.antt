@@ -1,5 +1,5 @@
 -- The one spelling in which a packet is written: its frames in order, all of them known, with nothing left and nothing after.
-use Rattle.std.specs.Prelude.{◌≡◌, ◌<◌, ◌^◌, ◌+◌, ℕ, Bool, true, false, not, List, [], ◌∷◌, ◌++◌, length, Option, Some, None, Result, Ok, Err, nat_lt, if◌then◌else◌}
+use Rattle.std.specs.Prelude.{◌≡◌, ◌<◌, ◌^◌, ◌+◌, ℕ, Bool, true, false, not, List, [], ◌∷◌, ◌++◌, length, Option, Some, None, Result, Ok, Err, nat_lt, if◌then◌else◌, ◌≤◌, MatchOption}
 use Rattle.std.specs.List.{position}
 use Rattle.st_oer.specs.Spelling.{octets, var_uint}
 use Rattle.st_oer.specs.Text.{is_utf8}
@@ -7,6 +7,7 @@ use Rattle.st_frames.specs.declared.error.FrameError.{FrameError}
 use Rattle.st_frames.specs.declared.error.FrameError.TheVariants.{FrameFormat, TooLong}
 use Rattle.st_frames.specs.Frames.{Known, Packet, OtherFrame, ConnectionNewAddress, max_packet}
 use Rattle.st_frames.specs.Table.{Field, Byte, Number, Limit, Octets, Text, Address, Item, Code, Num, Bytes, is_address_text, Row, row_of, layout}
+use Rattle.st_oer.specs.Seen.{Writes}
 
 -- the bytes of an item
 abbrev pub item_text : Item → List ℕ
@@ -40,6 +41,10 @@ packet_text kind sequence amount ks = 1 ∷ kind ∷ (var_uint sequence ++ (var_
 abbrev pub packet_length : (sequence amount : ℕ) → List Known → ℕ
 packet_length sequence amount ks = 2 + length (var_uint sequence) + length (var_uint amount) + length (var_uint (length ks)) + length (frames_text ks)
 
+-- this length, if a packet may be so long
+abbrev pub IsLengthWithin : ℕ → Option ℕ → Type 0
+IsLengthWithin size found = MatchOption found (max_packet < size) (λ n. (n ≡ size) × (n ≤ max_packet))
+
 -- a frame with an invalid address can't be written
 abbrev pub is_unwritable : Known → Bool
 is_unwritable (OtherFrame (ConnectionNewAddress address)) = not (is_address_text address)
@@ -58,6 +63,14 @@ written kind sequence amount ks = judged (position is_unwritable ks) (packet_tex
 abbrev pub size_of : Result (List ℕ) FrameError → Result ℕ FrameError
 size_of (Ok text) = Ok (length text)
 size_of (Err e) = Err e
+
+-- and how many bytes a packet takes
+abbrev pub packet_size : (kind sequence amount : ℕ) → List Known → Result ℕ FrameError
+packet_size kind sequence amount ks = size_of (written kind sequence amount ks)
+
+-- a packet was written, or refused for its own cause, or memory was refused
+abbrev pub WritesPacket : {X : Type 0} → (kind sequence amount : ℕ) → List Known → Result X FrameError → Type 0
+WritesPacket kind sequence amount ks result = Writes NoMemory (λ _. packet_text kind sequence amount ks) result (written kind sequence amount ks)
 
 -- every frame with its index
 abbrev pub indexed : ℕ → List Known → List (ℕ × Known)

@@ -1,12 +1,12 @@
 //! The length of a packet's encoding, in bytes, or why the packet cannot be written. It is computed before memory is
 //! requested.
 
-ghost use Rattle.std.specs.Prelude.{◌≡◌, ◌<◌, ◌≤◌, ◌+◌, ◌^◌, ℕ, length, map, MatchOption};
+ghost use Rattle.std.specs.Prelude.{◌≡◌, ◌<◌, ◌+◌, ◌^◌, ℕ, length, map, MatchOption};
 ghost use Rattle.std.specs.List.{position};
 ghost use Rattle.st_oer.specs.Seen.{Gives};
 ghost use Rattle.st_frames.specs.Frames.{max_packet};
 ghost use Rattle.st_frames.specs.Seen.{seen};
-ghost use Rattle.st_frames.specs.Written.{contents_text, frame_text, packet_length};
+ghost use Rattle.st_frames.specs.Written.{contents_text, frame_text, packet_length, IsLengthWithin};
 ghost use Rattle.st_frames.specs.Written as specs;
 
 use crate::error::FrameError;
@@ -56,7 +56,7 @@ fn first_unwritable(frames: &[Frame<'_>]) -> Option<usize>
 /// The length of a packet, or None if it is more than `MAX_PACKET`.
 #[tactic(auto, using(crate::proofs::Puts::lengths))]
 fn length_within(sequence: u64, amount: u64, frames: &[Frame<'_>]) -> Option<usize>
-    ensures { MatchOption result (max_packet < packet_length sequence amount (map seen frames.now)) (λ n. (n ≡ packet_length sequence amount (map seen frames.now)) × (n ≤ max_packet)) }
+    ensures { IsLengthWithin (packet_length sequence amount (map seen frames.now)) result }
 {
     let mut total = 2
         + var_uint_size(sequence)
@@ -78,7 +78,7 @@ fn length_within(sequence: u64, amount: u64, frames: &[Frame<'_>]) -> Option<usi
 /// `TooLong` above `MAX_PACKET` bytes.
 #[tactic(auto, unfolding(crate::specs::Written::written), using(crate::proofs::Puts::judging))]
 pub fn packet_len(sequence: u64, amount: u64, frames: &[Frame<'_>]) -> Result<usize, FrameError>
-    ensures { (kind : ℕ) → Gives (λ n. n) result (specs.size_of (specs.written kind sequence amount (map seen frames.now))) }
+    ensures { (kind : ℕ) → Gives (λ n. n) result (specs.packet_size kind sequence amount (map seen frames.now)) }
 {
     if let Some(index) = first_unwritable(frames) {
         return Err(FrameError::FrameFormat(index as u64));

@@ -103,9 +103,9 @@ pub fn put_packet<A: Allocator>(
     requires to_reject { kind ≤ 14 }
     ensures text { OnOk result (out.new.items ≡ out.old.items ++ specs.packet_text kind sequence amount (map seen frames.now)) }
     ensures unchanged { OnErr result (out.new.items ≡ out.old.items) }
-    ensures written { Writes FrameError.NoMemory (λ _. specs.packet_text kind sequence amount (map seen frames.now)) result (specs.written kind sequence amount (map seen frames.now)) }
+    ensures written { specs.WritesPacket kind sequence amount (map seen frames.now) result }
     ensures fits { OnOk result (specs.AllFit (map seen frames.now)) }
-    ensures room { IfOk (specs.size_of (specs.written kind sequence amount (map seen frames.now))) (λ n. vec_len out.old + n ≤ vec_capacity out.old → IsOk result) }
+    ensures room { IfOk (specs.packet_size kind sequence amount (map seen frames.now)) (λ n. vec_len out.old + n ≤ vec_capacity out.old → IsOk result) }
     ensures capacity { vec_capacity out.old ≤ vec_capacity out.new }
 {
     out.reserve(packet_len(sequence, amount, frames)?)?;

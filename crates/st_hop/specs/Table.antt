@@ -1,9 +1,11 @@
 -- Which tables a hop can be made of, and the hop that is made.
-use Rattle.std.specs.Prelude.{ℕ, ◌^◌, ◌&&◌, Bool, true, not, List, [], ◌∷◌, length, replicate, nat_lt, bytes_eq}
+use Rattle.std.specs.Prelude.{ℕ, ◌^◌, ◌&&◌, Bool, true, not, List, [], ◌∷◌, length, replicate, nat_lt, bytes_eq, ◌≡◌, false, Option, Result, MatchBool, MatchOption, IsOkUnless, IsErrOf}
 use Rattle.std.specs.List.{list_all, list_any}
 use Rattle.st_oer.specs.Address.{is_address}
 use Rattle.st_hop.specs.declared.account.Account.{Account}
 use Rattle.st_hop.specs.Hop.{Hop, Way}
+use Rattle.st_hop.specs.declared.error.HopError.{HopError}
+use Rattle.st_hop.specs.declared.error.HopError.TheVariants.{BadTable, NoMemory}
 
 abbrev pub has_prefix : List ℕ → Way → Bool
 has_prefix prefix r = bytes_eq prefix r.prefix
@@ -41,3 +43,11 @@ new_hop own accounts routes = record {
   tickets = [];
   next = 0;
 }
+
+-- of a lawful table it is made unless memory is refused, and another table is refused as such
+abbrev pub RefusesBadTable : {X : Type 0} → Bool → Result X HopError → Type 0
+RefusesBadTable is_lawful result = MatchBool is_lawful (IsOkUnless result NoMemory) (IsErrOf result BadTable)
+
+-- there is a value exactly if this holds
+abbrev pub IsSomeIff : {X : Type 0} → Bool → Option X → Type 0
+IsSomeIff holds made = MatchOption made (holds ≡ false) (λ _. holds ≡ true)

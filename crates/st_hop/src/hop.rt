@@ -1,6 +1,6 @@
 //! The state of a hop: accounts, routes and pending Prepares.
 
-ghost use Rattle.std.specs.Prelude.{◌≡◌, ◌<◌, ◌≤◌, ◌≤ℤ◌, pos, ◌+◌, ◌^◌, [], ℕ, false, length, map, sum, IfOk, IfErr, OnErr, IsErrOf, IsTrue, IsOkUnless, ◌↔◌, nat_lt, slice_index, if◌then◌else◌, None, MatchBool};
+ghost use Rattle.std.specs.Prelude.{◌≡◌, ◌<◌, ◌≤◌, ◌≤ℤ◌, pos, ◌+◌, ◌^◌, [], false, length, map, sum, IfOk, IfErr, OnErr, IsErrOf, IsTrue, IsOkUnless, ◌↔◌, nat_lt, slice_index, if◌then◌else◌, None, MatchBool};
 ghost use Rattle.st_oer.specs.Ratios.{exchanged};
 ghost use Rattle.st_ilp.specs.Writing.{prepare_refusal};
 ghost use Rattle.st_ilp.specs.Seen.{prepare_seen};
@@ -12,7 +12,7 @@ ghost use Rattle.st_hop.specs.Tickets.{IsAmong};
 ghost use Rattle.st_hop.specs.Arriving.{Answers, judged, arrived, sent_on, ticket_for, onward};
 ghost use Rattle.st_ilp.specs.Reading.{is_fulfill_text};
 ghost use Rattle.st_hop.specs.Settling.{settled, claim_of, due_of, is_booked};
-ghost use Rattle.st_hop.specs.Table.{is_table, new_hop};
+ghost use Rattle.st_hop.specs.Table.{is_table, new_hop, RefusesBadTable};
 ghost use Rattle.st_hop.specs.Lawful.{IsLawful};
 ghost use Rattle.st_links.specs.Outcomes.{outcome_seen};
 ghost use Rattle.st_hop.specs.Seen.{way_seen, verdict_seen, IsReady, GoesAcross};
@@ -109,7 +109,7 @@ impl<A: Allocator + Copy> HopState<A> {
         routes: &[Route<'_>],
     ) -> Result<HopState<A>, HopError>
         ensures made { IfOk result (λ h. h ≡ new_hop own.now accounts.now (map way_seen routes.now)) }
-        ensures refused { MatchBool (is_table own.now accounts.now (map way_seen routes.now)) (IsOkUnless result HopError.NoMemory) (IsErrOf result HopError.BadTable) }
+        ensures refused { RefusesBadTable (is_table own.now accounts.now (map way_seen routes.now)) result }
     {
         let routes = routes_of(alloc, own, accounts, routes)?;
         Ok(HopState {

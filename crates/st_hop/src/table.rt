@@ -1,8 +1,8 @@
 //! Checks of the table of accounts and routes that a hop is made of.
 
-ghost use Rattle.std.specs.Prelude.{◌≡◌, ◌^◌, ℕ, true, length, map, nat_lt, IfOk, OnOk, MatchBool, IsOkUnless, IsErrOf};
+ghost use Rattle.std.specs.Prelude.{◌≡◌, true, map, IfOk, OnOk};
 ghost use Rattle.std.specs.List.{list_all, list_any};
-ghost use Rattle.st_hop.specs.Table.{are_parts, is_table, is_distinct, is_account, is_way, has_prefix};
+ghost use Rattle.st_hop.specs.Table.{are_parts, is_table, is_distinct, is_account, is_way, has_prefix, RefusesBadTable};
 ghost use Rattle.st_hop.specs.Seen.{way_seen};
 
 use crate::account::Account;
@@ -75,7 +75,7 @@ pub(crate) fn routes_of<A: Allocator + Copy>(
 ) -> Result<Routes<A>, HopError>
     ensures kept { IfOk result (λ kept. kept ≡ map way_seen routes.now) }
     ensures lawful { OnOk result (is_table own.now accounts.now (map way_seen routes.now) ≡ true) }
-    ensures refused { MatchBool (is_table own.now accounts.now (map way_seen routes.now)) (IsOkUnless result HopError.NoMemory) (IsErrOf result HopError.BadTable) }
+    ensures refused { RefusesBadTable (is_table own.now accounts.now (map way_seen routes.now)) result }
 {
     if !are_parts(own, accounts, routes) {
         return Err(HopError::BadTable);

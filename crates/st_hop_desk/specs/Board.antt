@@ -27,6 +27,14 @@ pub record Lists : Type 0 where
 abbrev pub lists : {A : Type 0} → Batch A → Lists
 lists batch = record { places = batch.places.items; bookings = batch.bookings.items; tokens = batch.tokens.items }
 
+-- a batch has what it had
+abbrev pub IsSameBatch : {A : Type 0} → (old new : Batch A) → Type 0
+IsSameBatch old new = (new.places.items ≡ old.places.items) × (new.bookings.items ≡ old.bookings.items) × (new.tokens.items ≡ old.tokens.items)
+
+-- a booking was put at a place that was free, where it waits
+abbrev pub IsPutAt : (place : ℕ) → Booking → (old new : List Slot) → Type 0
+IsPutAt place booking old new = (slice_get old place ≡ Some Empty) × (new ≡ slice_set old place (Waits booking))
+
 -- a booking more, and the token that it does not have yet
 abbrev pub with_booking : Lists → (place : ℕ) → Booking → Lists
 with_booking l place b = record { places = l.places ++ place ∷ []; bookings = l.bookings ++ b ∷ []; tokens = l.tokens ++ None ∷ [] }

@@ -1,5 +1,5 @@
 -- How one Prepare is served: what was exchanged over the links, what was stored, and what is passed back.
-use Rattle.std.specs.Prelude.{◌≡◌, ◌⊎◌, ◌≤ℤ◌, ℕ, ℤ, pos, List, Option, Some, None, IfSome, MatchBool, true, false, ⊤}
+use Rattle.std.specs.Prelude.{◌≡◌, ◌⊎◌, ◌≤ℤ◌, ℕ, ℤ, pos, List, Option, Some, None, IfSome, MatchBool, true, false, ⊤, MatchOption}
 use Rattle.st_ilp.specs.Reading.{is_fulfill_text}
 use Rattle.st_hop.specs.Hop.{Hop}
 use Rattle.st_hop.specs.Lawful.{IsLawful}
@@ -10,7 +10,7 @@ use Rattle.st_hop.specs.Settling.{is_booked, settled}
 use Rattle.st_hop.specs.declared.ticket.Open.{Open}
 use Rattle.st_links.specs.declared.booking.Booking.{Booking}
 use Rattle.st_hop_desk.specs.Deadlines.{deadline}
-use Rattle.st_hop_desk.specs.Stored.{booking_of}
+use Rattle.st_hop_desk.specs.Stored.{booking_of, IsFateOf}
 use Rattle.st_hop_desk.specs.declared.stored.Fate.{Fate}
 use Rattle.st_hop_desk.specs.declared.stored.Fate.TheVariants.{Stored, Refused, Unknown}
 
@@ -35,6 +35,12 @@ IsTokenOf (Some (Stored b)) (Some token) = token ≡ b
 IsTokenOf (Some Refused) None = ⊤
 IsTokenOf (Some Refused) (Some token) = ⊥
 IsTokenOf (Some Unknown) token = ⊥
+
+-- the books are asked for what an outcome books, and this is its fate; if it books nothing they are not asked
+abbrev pub IsAsked : {B : Type 0} → (stores : B → Booking → Fate → B → Type 0) → Open → (outcome : Option (List ℕ)) → (now : ℤ) → (old : B) → Option Fate → (new : B) → Type 0
+IsAsked stores t outcome now old fate new =
+    MatchOption fate ((is_booked t outcome now ≡ false) × (new ≡ old))
+    (λ f. (is_booked t outcome now ≡ true) × stores old (booking_of t outcome now) f new × IsFateOf (booking_of t outcome now) f)
 
 -- ---- what the hop of a desk did under its lock. No contract can name what a lock has, so these say that there is such a hop
 
@@ -100,6 +106,9 @@ pub record Around (T B K : Type 0) : Type 0 where
   pub links : T
   pub books : B
   pub clock : K
+
+abbrev pub around : {T B K : Type 0} → T → B → K → Around T B K
+around links books clock = record { links = links; books = books; clock = clock }
 
 -- A Prepare of an account is forwarded, by a ticket: one exchange, of these bytes with this account, which is that of the ticket, and whose
 -- answer is of use until the expiry. The ticket ends by that answer, at the moment that the clock gives then

@@ -7,11 +7,12 @@ use Rattle.st_ilp.specs.Packets.{AnswerPacket, Fulfilled, Rejected}
 use Rattle.st_ilp.specs.Reading.{answer_at}
 use Rattle.st_ilp.specs.declared.error.IlpError.{IlpError}
 use Rattle.st_hop.specs.declared.ticket.Open.{Open}
-use Rattle.st_hop.specs.Settling.{is_booked}
+use Rattle.st_hop.specs.Settling.{is_booked, settled}
 use Rattle.st_links.specs.declared.booking.Booking.{Booking}
 use Rattle.st_links.specs.declared.booking.Proof.{Proof}
 use Rattle.st_hop_desk.specs.declared.stored.Fate.{Fate}
 use Rattle.st_hop_desk.specs.declared.stored.Fate.TheVariants.{Stored, Refused, Unknown}
+use Rattle.st_hop.specs.Hop.{Hop}
 
 -- what proves the claim of a ticket that was answered so at a moment: its condition, the fulfillment and the moment
 abbrev pub proof_in : Open → Result AnswerPacket IlpError → (now : ℤ) → Option Proof
@@ -65,3 +66,7 @@ abbrev pub own_fate : Fate → Booking → Fate
 own_fate (Stored token) b = if is_same token b then Stored token else Unknown
 own_fate Refused b = Refused
 own_fate Unknown b = Unknown
+
+-- a ticket is settled by an outcome, and by the token of what it books if it has one
+abbrev pub settled_by : Hop → Open → (outcome : Option (List ℕ)) → (now : ℤ) → (token : Option Booking) → List ℕ × Hop
+settled_by h t outcome now token = settled h t (counted t outcome now token) now

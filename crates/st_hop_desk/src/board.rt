@@ -1,7 +1,7 @@
 //! What waits for a commit of the books.
 
 ghost use Rattle.std.specs.Prelude.{◌≡◌, ◌≢◌, ◌∷◌, ◌++◌, ℕ, [], true, false, IfOk, None, Some, length, replicate, slice_get, slice_set};
-ghost use Rattle.st_hop_desk.specs.Board.{IsBatch, IsLed, IsTurn, TakesAt, lists, with_told, waits_at};
+ghost use Rattle.st_hop_desk.specs.Board.{IsBatch, IsLed, IsTurn, TakesAt, lists, with_told, waits_at, IsSameBatch, IsPutAt};
 ghost use Rattle.st_hop_desk.specs.declared.board.Slot.TheVariants as slot;
 ghost use Rattle.st_hop_desk.specs.declared.stored.Fate as fates;
 
@@ -61,7 +61,7 @@ impl<A: Allocator + Copy> Batch<A> {
         ensures places { result ≡ true → self.new.places.items ≡ self.old.places.items ++ place ∷ [] }
         ensures bookings { result ≡ true → self.new.bookings.items ≡ self.old.bookings.items ++ booking ∷ [] }
         ensures tokens { result ≡ true → self.new.tokens.items ≡ self.old.tokens.items ++ None ∷ [] }
-        ensures unchanged { result ≡ false → (self.new.places.items ≡ self.old.places.items) × (self.new.bookings.items ≡ self.old.bookings.items) × (self.new.tokens.items ≡ self.old.tokens.items) }
+        ensures unchanged { result ≡ false → IsSameBatch self.old self.new }
     {
         if self.places.push(place).is_err() {
             return false;
@@ -96,7 +96,7 @@ impl<A: Allocator + Copy> Board<A> {
 
     /// Puts a booking at a place that is free, and gives the place. `None` if all are in use.
     pub(crate) fn put(&mut self, booking: Booking) -> Option<usize>
-        ensures put { (place : ℕ) → result ≡ Some place → (slice_get self.old.slots.items place ≡ Some slot.Empty) × (self.new.slots.items ≡ slice_set self.old.slots.items place (slot.Waits booking)) }
+        ensures put { (place : ℕ) → result ≡ Some place → IsPutAt place booking self.old.slots.items self.new.slots.items }
         ensures full { result ≡ None → (self.new.slots.items ≡ self.old.slots.items) × ((place : ℕ) → slice_get self.old.slots.items place ≢ Some slot.Empty) }
         ensures busy { self.new.is_busy ≡ self.old.is_busy }
     {
@@ -206,7 +206,8 @@ impl<A: Allocator + Copy> Board<A> {
 
     /// Puts what a commit made of its bookings at their places, and ends it.
     pub(crate) fn finish(&mut self, ended: Ended<A>)
-        ensures told { length ended.tokens.items ≡ length ended.places.items → self.new.slots.items ≡ with_told self.old.slots.items ended.places.items ended.tokens.items ended.is_known }
+        ensures told { length ended.tokens.items ≡ length ended.places.items →
+            self.new.slots.items ≡ with_told self.old.slots.items ended.places.items ended.tokens.items ended.is_known }
         ensures free { self.new.is_busy ≡ false }
     {
         let Ended {

@@ -11,8 +11,8 @@ ghost use Rattle.st_hop.specs.Settling.{settled, claim_of, due_of, is_booked};
 ghost use Rattle.st_links.specs.Outcomes.{outcome_seen};
 ghost use Rattle.st_hop.specs.Seen.{verdict_seen, IsReady, GoesAcross};
 ghost use Rattle.st_hop.specs.declared.error.HopError.TheVariants as refusals;
-ghost use Rattle.st_hop_desk.specs.Desk.{claims_in, dues_in};
-ghost use Rattle.st_hop_desk.specs.Stored.{booking_of, counted};
+ghost use Rattle.st_hop_desk.specs.Desk.{claims_in, dues_in, with_share_out, with_all_back};
+ghost use Rattle.st_hop_desk.specs.Stored.{booking_of, counted, settled_by};
 ghost use Rattle.st_hop_desk.specs.declared.error.DeskError.TheVariants.{NoShareLeft, Stranger, MissingShare, NoMemory};
 
 use crate::error::DeskError;
@@ -126,7 +126,7 @@ impl<C: Ledger, D: Ledger, A: Allocator + Copy> HopDesk<C, D, A> {
     ///
     /// Fails with `NoShareLeft` if 63 are outstanding; then nothing has changed.
     pub fn shares(&mut self) -> Result<AccountShares<C, D>, DeskError>
-        ensures given { IfOk result (λ s. (s ≡ record { claims = 0; dues = 0 }) × (self.old.out < 63) × (self.new ≡ record self.old { out = self.old.out + 1 })) }
+        ensures given { IfOk result (λ s. (s ≡ record { claims = 0; dues = 0 }) × (self.old.out < 63) × (self.new ≡ with_share_out self.old)) }
         ensures none_left { IfErr result (λ e. (e ≡ NoShareLeft) × (self.old.out ≡ 63) × (self.new ≡ self.old)) }
     {
         if self.out >= SHARES {
@@ -190,7 +190,8 @@ impl<C: Ledger, D: Ledger, A: Allocator + Copy> HopDesk<C, D, A> {
         token: Option<Booked>,
     ) -> Result<Vec<u8, A>, DeskError>
         ensures lawful { IsLawful self.old.hop }
-        ensures settled { IfOk result (λ v. IsAmong self.old.hop.tickets ticket × (settled self.old.hop ticket (counted ticket (outcome_seen outcome) now token) now ≡ (v.items, self.new.hop))) }
+        ensures settled { IfOk result (λ v. IsAmong self.old.hop.tickets ticket
+            × (settled_by self.old.hop ticket (outcome_seen outcome) now token ≡ (v.items, self.new.hop))) }
         ensures claims { OnOk result (shares.new.claims ≡ shares.old.claims + claim_of ticket (counted ticket (outcome_seen outcome) now token) now) }
         ensures dues { OnOk result (shares.new.dues ≡ shares.old.dues + due_of ticket (counted ticket (outcome_seen outcome) now token) now) }
         ensures fulfills { IfOk result (λ v. is_fulfill_text v.items ≡ is_booked ticket (counted ticket (outcome_seen outcome) now token) now) }
@@ -232,7 +233,7 @@ impl<C: Ledger, D: Ledger, A: Allocator + Copy> HopDesk<C, D, A> {
     ) -> Result<Owed, (DeskError, Vec<AccountShares<C, D>, A>)>
         ensures claims { IfOk result (λ n. (n.claims ≡ sum self.old.hop.claims) × (n.claims ≡ self.old.kept_claims + sum_by claims_in shares.items)) }
         ensures dues { IfOk result (λ n. (n.dues ≡ sum self.old.hop.dues) × (n.dues ≡ self.old.kept_dues + sum_by dues_in shares.items)) }
-        ensures all_here { IfOk result (λ n. (vec_len shares ≡ self.old.out) × (self.new ≡ record self.old { out = 0; kept_claims = n.claims; kept_dues = n.dues })) }
+        ensures all_here { IfOk result (λ n. (vec_len shares ≡ self.old.out) × (self.new ≡ with_all_back self.old n.claims n.dues)) }
         ensures missing { IfErr result (λ back. (back ≡ (MissingShare, shares)) × (vec_len shares < self.old.out) × (self.new ≡ self.old)) }
     {
         if (shares.len() as u64) < self.out {

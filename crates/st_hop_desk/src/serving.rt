@@ -1,13 +1,13 @@
 //! How one thread serves a hop.
 
-ghost use Rattle.std.specs.Prelude.{◌≡◌, ◌≤ℤ◌, ◌<ℤ◌, pos, true, false, None, Some, IfOk, IfSome, MatchOption, OnErr};
+ghost use Rattle.std.specs.Prelude.{◌≡◌, ◌≤ℤ◌, ◌<ℤ◌, pos, true, false, None, Some, IfOk, MatchOption, OnErr};
 ghost use Rattle.st_ilp.specs.Reading.{is_fulfill_text};
 ghost use Rattle.st_links.specs.Outcomes.{outcome_seen};
 ghost use Rattle.st_hop.specs.Seen.{verdict_seen};
 ghost use Rattle.st_hop.specs.Settling.{is_booked};
 ghost use Rattle.st_links.specs.Answers.{told};
 ghost use Rattle.st_hop_desk.specs.Deadlines.{deadline};
-ghost use Rattle.st_hop_desk.specs.Serving.{AnswersBy, EndsAs, IsAnswered, IsOf, IsServed, IsSettlement, IsStrange, IsT00, IsTokenOf, IsUnfulfilled, IsVerdict};
+ghost use Rattle.st_hop_desk.specs.Serving.{AnswersBy, EndsAs, IsAnswered, IsOf, IsServed, IsSettlement, IsStrange, IsT00, IsTokenOf, IsUnfulfilled, IsVerdict, IsAsked, around};
 ghost use Rattle.st_hop_desk.specs.declared.stored.Fate.TheVariants as fated;
 ghost use Rattle.st_hop_desk.specs.Stored as stored;
 
@@ -100,8 +100,7 @@ fn fate_of<A: Allocator + Copy, B: Books>(
     outcome: &Outcome<A>,
     now: Moment,
 ) -> Option<Fate>
-    ensures asked { MatchOption result ((is_booked ticket.now (outcome_seen outcome.now) now ≡ false) × (books.new ≡ books.old))
-        (λ fate. (is_booked ticket.now (outcome_seen outcome.now) now ≡ true) × B.stores books.old (stored.booking_of ticket.now (outcome_seen outcome.now) now) fate books.new × stored.IsFateOf (stored.booking_of ticket.now (outcome_seen outcome.now) now) fate) }
+    ensures asked { IsAsked B.stores ticket.now (outcome_seen outcome.now) now books.old result books.new }
 {
     if !ticket.is_booked_by(outcome, now) {
         return None;
@@ -163,7 +162,7 @@ fn answer_to<C: Ledger, D: Ledger, A: Allocator + Copy, T: Links<A>, B: Books, K
 ) -> Result<Option<Vec<u8, A>>, DeskError>
     requires { IsOf _account (verdict_seen verdict) }
     ensures { IfOk result (λ answer. IsAnswered T.exchanges B.stores K.reads _account (verdict_seen verdict)
-        (record { links = links.old; books = books.old; clock = clock.old }) (record { links = links.new; books = books.new; clock = clock.new }) (told answer)) }
+        (around links.old books.old clock.old) (around links.new books.new clock.new) (told answer)) }
 {
     match verdict {
         Verdict::Answer(answer) => Ok(Some(answer)),
@@ -203,7 +202,7 @@ pub fn serve<C: Ledger, D: Ledger, A: Allocator + Copy, T: Links<A>, B: Books, K
 ) -> Result<Served<A>, DeskError>
     ensures account { IfOk result (λ s. s.account ≡ account) }
     ensures served { IfOk result (λ s. IsServed T.exchanges B.stores K.reads account bytes.now
-        (record { links = links.old; books = books.old; clock = clock.old }) (record { links = links.new; books = books.new; clock = clock.new }) (told s.answer)) }
+        (around links.old books.old clock.old) (around links.new books.new clock.new) (told s.answer)) }
 {
     let now = clock.now();
     let (account, answer) = match arrive(rt, desk, account, bytes, now) {

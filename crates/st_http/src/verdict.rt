@@ -63,7 +63,8 @@ fn request_verdict(
     requires lawful { All IsPair (map (header_bytes head.now) fields.now) }
     requires short { length head.now ≤ head_limit }
     requires few { length fields.now ≤ field_limit }
-    ensures { IfOk result (λ verdict. verdict ≡ spec.request_verdict (map (λ t. t.now) tokens.now) target.now method.now (map (header_bytes head.now) fields.now)) }
+    ensures { IfOk result (λ verdict.
+        verdict ≡ spec.request_verdict (map (λ t. t.now) tokens.now) target.now method.now (map (header_bytes head.now) fields.now)) }
 {
     if target != b"/ilp".as_slice() {
         return Ok(Err(HttpError::Status(404)));

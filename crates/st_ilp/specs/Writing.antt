@@ -1,13 +1,14 @@
 -- What is written, and what is refused: the first rule that does not hold, in the order of the fields.
-use Rattle.std.specs.Prelude.{ℕ, ◌+◌, nat_le, not, if◌then◌else◌, List, length, Option, Some, None, Result, Ok, Err}
+use Rattle.std.specs.Prelude.{ℕ, ◌+◌, nat_le, not, if◌then◌else◌, List, length, Option, Some, None, Result, Ok, Err, ◌≡◌, MatchResult}
 use Rattle.st_oer.specs.Address.{is_address}
 use Rattle.st_oer.specs.Spelling.{length_bytes}
 use Rattle.st_ilp.specs.declared.error.IlpError.{IlpError}
-use Rattle.st_ilp.specs.declared.error.IlpError.TheVariants.{Expiry, Address, DataTooLong, Code}
+use Rattle.st_ilp.specs.declared.error.IlpError.TheVariants.{Expiry, Address, DataTooLong, Code, NoMemory}
 use Rattle.st_ilp.specs.Packets.{PreparePacket, AnswerPacket, Fulfilled, Rejected}
 use Rattle.st_ilp.specs.Expiry.{is_expiry}
 use Rattle.st_ilp.specs.Spelling.{prepare_text, answer_text}
 use Rattle.st_ilp.specs.Rules.{max_message, is_data, is_sender, is_code}
+use Rattle.st_oer.specs.Seen.{Writes}
 
 -- why a Prepare is not written, memory aside
 unfoldable pub prepare_refusal : PreparePacket → Option IlpError
@@ -39,6 +40,14 @@ prepare_written p = unless (prepare_refusal p) (prepare_text p)
 -- what writing an answer gives
 abbrev pub answer_written : AnswerPacket → Result (List ℕ) IlpError
 answer_written a = unless (answer_refusal a) (answer_text a)
+
+-- a judgement gives this refusal, if there is one
+abbrev pub Judges : {X : Type 0} → Option IlpError → Result X IlpError → Type 0
+Judges refusal result = MatchResult result (λ _. refusal ≡ None) (λ e. refusal ≡ Some e)
+
+-- an answer was written, or refused for its own cause, or memory was refused
+abbrev pub WritesAnswer : {X : Type 0} → AnswerPacket → Result X IlpError → Type 0
+WritesAnswer a result = Writes NoMemory (λ _. answer_text a) result (answer_written a)
 
 -- how many bytes n octets need with their length
 abbrev pub octets_size : ℕ → ℕ

@@ -1,10 +1,9 @@
 //! Writing Rejects, also into a vector with reserved capacity.
 
-ghost use Rattle.std.specs.Prelude.{◌≡◌, ◌≢◌, ◌<◌, ◌≤◌, ◌^◌, ◌+◌, ◌++◌, ◌∷◌, [], length, None, Some, IsOk, MatchResult, IfErr, OnOk, OnErr, vec_len, vec_capacity};
-ghost use Rattle.st_oer.specs.Seen.{Writes};
+ghost use Rattle.std.specs.Prelude.{◌≡◌, ◌≢◌, ◌<◌, ◌≤◌, ◌^◌, ◌+◌, ◌++◌, [], length, None, IsOk, IfErr, OnOk, OnErr, vec_len, vec_capacity};
 ghost use Rattle.st_ilp.specs.Packets.{Rejected};
 ghost use Rattle.st_ilp.specs.Spelling.{answer_text, answer_contents};
-ghost use Rattle.st_ilp.specs.Writing.{answer_refusal, answer_written, reject_size, octets_size, reject_contents_size};
+ghost use Rattle.st_ilp.specs.Writing.{answer_refusal, reject_size, Judges, WritesAnswer};
 
 use crate::error::IlpError;
 use crate::packet::{MAX_DATA, MAX_MESSAGE, REJECT, is_code, is_sender};
@@ -21,7 +20,7 @@ pub(crate) fn judge_reject(
     message: &str,
     payload: &[u8],
 ) -> Result<(), IlpError>
-    ensures judged { MatchResult result (λ _. answer_refusal (Rejected code.now by.now message.now payload.now) ≡ None) (λ e. answer_refusal (Rejected code.now by.now message.now payload.now) ≡ Some e) }
+    ensures judged { Judges (answer_refusal (Rejected code.now by.now message.now payload.now)) result }
     ensures no_memory { IfErr result (λ e. e ≢ IlpError.NoMemory) }
 {
     if !is_code(code) {
@@ -84,8 +83,9 @@ pub fn put_reject<A: Allocator>(
 ) -> Result<(), IlpError>
     ensures text { OnOk result (out.new.items ≡ out.old.items ++ answer_text (Rejected code by.now [] payload.now)) }
     ensures unchanged { OnErr result (out.new.items ≡ out.old.items) }
-    ensures written { Writes IlpError.NoMemory (λ _. answer_text (Rejected code by.now [] payload.now)) result (answer_written (Rejected code by.now [] payload.now)) }
-    ensures room { answer_refusal (Rejected code by.now [] payload.now) ≡ None → vec_len out.old + reject_size by.now (length payload.now) ≤ vec_capacity out.old → IsOk result }
+    ensures written { WritesAnswer (Rejected code by.now [] payload.now) result }
+    ensures room { answer_refusal (Rejected code by.now [] payload.now) ≡ None →
+        vec_len out.old + reject_size by.now (length payload.now) ≤ vec_capacity out.old → IsOk result }
     ensures capacity { vec_capacity out.old ≤ vec_capacity out.new }
 {
     judge_reject(&code, by, "", payload)?;

@@ -4,6 +4,8 @@ use mathlib.Core.Option.{some}
 use lib.ListN.{get_elem?}
 use Rattle.atomic_table.specs.Table.{State, Me, Step}
 use Rattle.st_queues.specs.declared.table.View.{View}
+use Rattle.atomic_table.specs.Seated.{TableId}
+use Rattle.atomic_table.specs.declared.shared.Seat.{Seat}
 
 -- what a seat has seen of the words is not above them; if it asked to stop, the stop word is 1; and the one seat that publishes has
 -- seen the totals as they are
@@ -42,3 +44,15 @@ Rises s v found w = (w.1 ≡ v.1) × (w.0 ≡ record v.0 { seen = slice_set v.0.
 -- the stop word is 1 from now on, and the seat asked for it
 abbrev pub Asks : Step ℕ → Me ℕ View → ℕ → Me ℕ View → Type 0
 Asks s v found w = (w.1 ≡ v.1) × (w.0 ≡ record v.0 { asked = true; seen = slice_set v.0.seen 0 1 })
+
+-- a seat of the same table, which has seen this number in a word, and it is not below what it had seen there
+abbrev pub HasSeen : ℕ → ℕ → (old new : Seat ℕ View) → Type 0
+HasSeen word found old new = (new.table_id ≡ old.table_id) × (new.me.0 ≡ record old.me.0 { seen = slice_set old.me.0.seen word found }) × (slice_index old.me.0.seen word ≤ found)
+
+-- a seat of this table of five words publishes, and the number is not below the total that it published last in this word
+abbrev pub MayPublish : TableId → ℕ → ℕ → Seat ℕ View → Type 0
+MayPublish table word new seat = (seat.table_id ≡ table) × (table.words ≡ 5) × (0 < word) × (word < 5) × (seat.me.0.publishes ≡ true) × (slice_index seat.me.0.seen word ≤ new)
+
+-- a seat stays as it is, and another one of the same table is split from it
+abbrev pub IsSplit : (old new other : Seat ℕ View) → Type 0
+IsSplit old new other = (new.table_id ≡ old.table_id) × (new.me ≡ old.me) × (other.table_id ≡ old.table_id) × (other.me.0 ≡ watcher old.me.0)

@@ -16,6 +16,10 @@ pub record Read (A : Type 0) : Type 0 where
   pub over : Over
 
 module _ {A : Type 0} where
+  -- the reader reads nothing, and may learn of more items
+  abbrev pub ReadsNothing : (old new : Read A) → Type 0
+  ReadsNothing old new = (new.stream ≡ old.stream) × (new.items ≡ old.items) × (new.over ≡ old.over) × IsPrefix old.known new.known
+
   -- the next item is read, the first of those known, and the stream is over or not
   abbrev pub Takes : Read A → Read A → Delivery A → Over → Type 0
   Takes a b x o = (a.over ≡ over.Open) × (b.items ≡ a.items ++ x ∷ []) × IsPrefix a.known (x ∷ b.known) × (b.over ≡ o)

@@ -1,8 +1,9 @@
 -- What a writer writes, and what it is refused.
-use Rattle.std.specs.Prelude.{◌≡◌, ℕ, ◌<◌, ◌≤◌, List, [], Bool, true, false, Vec}
+use Rattle.std.specs.Prelude.{◌≡◌, ℕ, ◌<◌, ◌≤◌, List, [], Bool, true, false, Vec, ◌+◌, ◌∷◌, ◌++◌, vec_len}
 use Rattle.st_queues.specs.declared.items.Item.{Item}
 use Rattle.st_queues.specs.declared.error.QueueError.{QueueError}
 use Rattle.st_queues.specs.declared.error.QueueError.TheVariants.{NoMemory, Full, BadLength, Ended}
+use Rattle.st_queues.specs.declared.items.Item.TheVariants.{Chunk, End}
 
 -- what a writer shows: its ring's number, what it wrote, oldest first, how many items it knows room for, and whether it ended
 pub record Written (A : Type 0) : Type 0 where
@@ -29,3 +30,15 @@ module _ {A : Type 0} where
   RefusesEnd w (Full c) = (c.items ≡ []) × (w.ended ≡ false) × (w.free ≡ 0)
   RefusesEnd w (BadLength c) = ⊥
   RefusesEnd w NoMemory = ⊥
+
+  -- the writer writes nothing, and may learn of more room
+  abbrev pub WritesNothing : (old new : Written A) → Type 0
+  WritesNothing old new = (new.ring ≡ old.ring) × (new.items ≡ old.items) × (new.ended ≡ old.ended) × (old.free ≤ new.free)
+
+  -- the chunk is written, before any end, and takes one place
+  abbrev pub WritesChunk : Vec ℕ A → (old new : Written A) → Type 0
+  WritesChunk chunk old new = IsLawful (vec_len chunk) × (old.ended ≡ false) × (new.items ≡ old.items ++ Chunk chunk ∷ []) × (old.free ≤ new.free + 1)
+
+  -- the end is written, once, and no room is left for anything after it
+  abbrev pub WritesEnd : (old new : Written A) → Type 0
+  WritesEnd old new = (old.ended ≡ false) × (new.ended ≡ true) × (new.free ≡ 0) × (new.items ≡ old.items ++ End ∷ [])

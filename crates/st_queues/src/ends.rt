@@ -2,6 +2,8 @@
 ghost use Rattle.std.specs.Prelude.{◌≡◌, ◌+◌, ◌≤◌, ◌<◌, ◌↔◌, [], ◌∷◌, ◌++◌, length, IsTrue};
 ghost use mathlib.Core.List.{IsPrefix};
 ghost use Rattle.st_queues.specs.Names.{producer_ring, consumer_ring};
+ghost use Rattle.st_queues.specs.Writing.{WritesNothing};
+ghost use Rattle.st_queues.specs.Reading.{ReadsNothing};
 
 use crate::items::{Delivery, Item};
 use crate::name::HubName;
@@ -50,7 +52,7 @@ impl<A: Allocator + Copy> WriteEnd<A> {
     pub fn meet<N: HubName<A>>(&mut self, writer: &mut StreamWriter<N, A>) -> usize
         requires { (consumer_ring self.old.consumer ≡ N.write_ring self.old.ring) × (writer.old.ring ≡ self.old.ring) }
         ensures same { SameWriteEnd self.old self.new × (taken self.new ≡ taken self.old) × IsPrefix (known self.old) (known self.new) }
-        ensures writer { (writer.new.ring ≡ writer.old.ring) × (writer.new.items ≡ writer.old.items) × (writer.new.ended ≡ writer.old.ended) × (writer.old.free ≤ writer.new.free) }
+        ensures writer { WritesNothing writer.old writer.new }
         ensures count { result ≡ length (known self.new) }
         ensures whole { taken self.new ++ known self.new ≡ writer.new.items }
     {
@@ -90,7 +92,7 @@ impl<A: Allocator + Copy> ReadEnd<A> {
     pub fn meet<N: HubName<A>>(&mut self, reader: &mut StreamReader<N, A>) -> usize
         requires { (producer_ring self.old.producer ≡ N.read_ring self.old.stream) × (reader.old.stream ≡ self.old.stream) }
         ensures same { SameReadEnd self.old self.new × (put_in self.new ≡ put_in self.old) × (free_of self.old ≤ free_of self.new) }
-        ensures reader { (reader.new.stream ≡ reader.old.stream) × (reader.new.items ≡ reader.old.items) × (reader.new.over ≡ reader.old.over) × IsPrefix reader.old.known reader.new.known }
+        ensures reader { ReadsNothing reader.old reader.new }
         ensures count { result ≡ length reader.new.known }
         ensures whole { reader.new.items ++ reader.new.known ≡ put_in self.new }
     {

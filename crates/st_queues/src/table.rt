@@ -1,7 +1,7 @@
 //! The words of a gauge and the steps on them, of which there are three kinds: the hub's seat stores a total that is not
 //! below its last, a seat reads a word, and a seat sets the stop word.
-ghost use Rattle.std.specs.Prelude.{◌≡◌, ◌≤◌, ◌<◌, [], true, slice_index, slice_set, IfOk};
-ghost use Rattle.st_queues.specs.Gauged.{publisher, watcher};
+ghost use Rattle.std.specs.Prelude.{◌≡◌, ◌<◌, [], true, slice_set, IfOk};
+ghost use Rattle.st_queues.specs.Gauged.{publisher, watcher, MayPublish, HasSeen, IsSplit};
 
 use atomic_table::{Play, Seat, Split, Table, TableRule};
 use std::alloc::{AllocError, Allocator};
@@ -72,7 +72,7 @@ pub(crate) fn look<A: Allocator + Copy>(
     word: usize,
 ) -> u64
     requires { (seat.old.table_id ≡ table.now.shared.table_id) × (table.now.shared.table_id.words ≡ 5) × (word < 5) }
-    ensures { (seat.new.table_id ≡ seat.old.table_id) × (seat.new.me.0 ≡ record seat.old.me.0 { seen = slice_set seat.old.me.0.seen word result }) × (slice_index seat.old.me.0.seen word ≤ result) }
+    ensures { HasSeen word result seat.old seat.new }
 {
     table.shared.load::<Records>(seat, word)
 }
@@ -84,7 +84,7 @@ pub(crate) fn put<A: Allocator + Copy>(
     word: usize,
     new: u64,
 )
-    requires { (seat.old.table_id ≡ table.now.shared.table_id) × (table.now.shared.table_id.words ≡ 5) × (0 < word) × (word < 5) × (seat.old.me.0.publishes ≡ true) × (slice_index seat.old.me.0.seen word ≤ new) }
+    requires { MayPublish table.now.shared.table_id word new seat.old }
     ensures { (seat.new.table_id ≡ seat.old.table_id) × (seat.new.me.0 ≡ record seat.old.me.0 { seen = slice_set seat.old.me.0.seen word new }) }
 {
     table.shared.store::<Records>(seat, word, new);
@@ -101,7 +101,7 @@ pub(crate) fn set_stop<A: Allocator + Copy>(table: &GaugeTable<A>, seat: &mut Ra
 // Splits off another seat, which does not publish.
 pub(crate) fn split<A: Allocator + Copy>(table: &GaugeTable<A>, seat: &mut RawSeat) -> RawSeat
     requires { (seat.old.table_id ≡ table.now.shared.table_id) × (table.now.shared.table_id.words ≡ 5) }
-    ensures { (seat.new.table_id ≡ seat.old.table_id) × (seat.new.me ≡ seat.old.me) × (result.table_id ≡ seat.old.table_id) × (result.me.0 ≡ watcher seat.old.me.0) }
+    ensures { IsSplit seat.old seat.new result }
 {
     table.shared.split_seat::<Watches>(seat)
 }

@@ -1,8 +1,8 @@
 //! The application's side of a ring to write to.
-ghost use Rattle.std.specs.Prelude.{◌≡◌, ◌+◌, ◌≤◌, ◌<◌, ℕ, [], ◌∷◌, ◌++◌, true, false, length, vec_len, IfErr, OnOk, IsOk};
+ghost use Rattle.std.specs.Prelude.{◌≡◌, ◌+◌, ◌≤◌, ◌<◌, true, false, vec_len, IfErr, OnOk, IsOk};
 ghost use Rattle.rtrb.specs.Ring.{sent, known_free};
 ghost use Rattle.st_queues.specs.Names.{producer_ring};
-ghost use Rattle.st_queues.specs.Writing.{IsLawful, RefusesChunk, RefusesEnd};
+ghost use Rattle.st_queues.specs.Writing.{IsLawful, RefusesChunk, RefusesEnd, WritesChunk, WritesEnd, WritesNothing};
 
 use crate::error::QueueError;
 use crate::items::Item;
@@ -60,7 +60,7 @@ impl<N: HubName<A>, A: Allocator + Copy> StreamWriter<N, A> {
     /// if the ring has no room. The error gives the chunk back.
     pub fn try_write(&mut self, chunk: Vec<u8, A>) -> Result<(), QueueError<A>>
         ensures same { (self.new.ring ≡ self.old.ring) × (self.new.ended ≡ self.old.ended) }
-        ensures ok { OnOk result (IsLawful (vec_len chunk) × (self.old.ended ≡ false) × (self.new.items ≡ self.old.items ++ Item.Chunk chunk ∷ []) × (self.old.free ≤ self.new.free + 1)) }
+        ensures ok { OnOk result (WritesChunk chunk self.old self.new) }
         ensures err { IfErr result (λ e. RefusesChunk (vec_len chunk) chunk self.new e) }
         ensures unchanged { IfErr result (λ _. (self.new.items ≡ self.old.items) × (self.old.free ≤ self.new.free)) }
         ensures succeeds { IsLawful (vec_len chunk) → 0 < self.old.free → IsOk result }
@@ -83,7 +83,7 @@ impl<N: HubName<A>, A: Allocator + Copy> StreamWriter<N, A> {
     /// Fails with `Ended` after an end, and then with `Full` if the ring has no room. The error has an empty chunk.
     pub fn try_end(&mut self) -> Result<(), QueueError<A>>
         ensures same { self.new.ring ≡ self.old.ring }
-        ensures ok { OnOk result ((self.old.ended ≡ false) × (self.new.ended ≡ true) × (self.new.free ≡ 0) × (self.new.items ≡ self.old.items ++ Item.End ∷ [])) }
+        ensures ok { OnOk result (WritesEnd self.old self.new) }
         ensures err { IfErr result (λ e. RefusesEnd self.new e) }
         ensures unchanged { IfErr result (λ _. (self.new.items ≡ self.old.items) × (self.new.ended ≡ self.old.ended) × (self.old.free ≤ self.new.free)) }
         ensures succeeds { 0 < self.old.free → IsOk result }
@@ -103,7 +103,7 @@ impl<N: HubName<A>, A: Allocator + Copy> StreamWriter<N, A> {
     pub fn free(&mut self) -> usize
         ensures room { result ≡ self.new.free }
         ensures ended { self.old.ended ≡ true → result ≡ 0 }
-        ensures same { (self.new.ring ≡ self.old.ring) × (self.new.ended ≡ self.old.ended) × (self.new.items ≡ self.old.items) × (self.old.free ≤ self.new.free) }
+        ensures same { WritesNothing self.old self.new }
     {
         if self.ended {
             return 0;

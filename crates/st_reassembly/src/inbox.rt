@@ -1,10 +1,10 @@
 //! The received bytes of one stream, until they are read.
 
-ghost use Rattle.std.specs.Prelude.{◌≡◌, ℕ, ◌+◌, ◌^◌, ◌<◌, ◌≤◌, ◌↔◌, ◌&&◌, ◌||◌, is_some, true, false, nat_lt, not, length, take, IfOk, OnOk, OnErr, IsErrOf, IsOk, IsOkUnless};
+ghost use Rattle.std.specs.Prelude.{◌≡◌, ◌+◌, ◌^◌, ◌<◌, ◌≤◌, ◌↔◌, ◌&&◌, ◌||◌, is_some, true, false, nat_lt, not, length, take, IfOk, OnOk, OnErr, IsErrOf, IsOkUnless};
 ghost use Rattle.st_reassembly.specs.Held.{nothing_held, is_over, after_insert};
 ghost use Rattle.st_reassembly.specs.Closing.{after_finish, after_abort, is_at_end, is_spent};
 ghost use Rattle.st_reassembly.specs.Run.{run, after_take};
-ghost use Rattle.st_reassembly.specs.Inserting.{inserted, Inserts};
+ghost use Rattle.st_reassembly.specs.Inserting.{Inserts, EndsPastWindow};
 
 use crate::error::InboxError;
 use crate::ring::{Ring, WINDOW, copy, empty, forget, join, none, room, row, row_length};
@@ -76,7 +76,7 @@ impl<A: Allocator + Copy> Inbox<A> {
     /// count. A call that fails changes nothing.
     pub fn insert(&mut self, offset: u64, bytes: &[u8]) -> Result<(), InboxError>
         ensures overflow { IsErrOf result InboxError.Overflow ↔ (2 ^ 64 ≤ offset + length bytes.now) }
-        ensures past_window { IsErrOf result InboxError.PastWindow ↔ ((offset + length bytes.now < 2 ^ 64) × (is_over self.old ≡ false) × (self.old.read + 65536 < offset + length bytes.now)) }
+        ensures past_window { IsErrOf result InboxError.PastWindow ↔ EndsPastWindow offset bytes.now self.old }
         ensures joins { OnOk result (self.new ≡ after_insert offset bytes.now self.old) }
         ensures unchanged { OnErr result (self.new ≡ self.old) }
         ensures answer { Inserts offset bytes.now self.old self.new result }

@@ -1,8 +1,6 @@
 //! A window of places, in which the byte at an offset lies at the remainder of the offset.
 ghost use Rattle.std.specs.Prelude.{◌≡◌, ℕ, true, ◌+◌, ◌-◌, ◌^◌, ◌%◌, ◌<◌, ◌≤◌, ◌⊎◌, if◌then◌else◌, length, max, min, vec_capacity, None, nat_lt, IfOk, IsSome, slice_index};
-ghost use Rattle.std.specs.Option.{option_or};
-ghost use Rattle.st_streams.specs.Table.{is_between};
-ghost use Rattle.st_reassembly.specs.Ring.{byte_at, cell, place};
+ghost use Rattle.st_reassembly.specs.Ring.{byte_at, cell, Overwrites, FillsPlaces, JoinsBytes, KeepsBytesBefore, byte_below, ForgetsBytes, places, cells};
 
 use crate::marks::{WORDS, mark, next_place, unmark};
 use std::alloc::{AllocError, Allocator};
@@ -44,7 +42,7 @@ fn place_of(offset: u64) -> usize
 fn write_at<A: Allocator>(bytes: &mut Vec<u8, A>, at: usize, piece: &[u8])
     requires { at + length piece.now ≤ length bytes.old.items }
     ensures len { length bytes.new.items ≡ length bytes.old.items }
-    ensures bytes { (k : ℕ) → slice_index bytes.new.items k ≡ (if is_between at (at + length piece.now) k then slice_index piece.now (k - at) else slice_index bytes.old.items k) }
+    ensures bytes { Overwrites at piece.now bytes.old.items bytes.new.items }
 {
     bytes[at..at + piece.len()].copy_from_slice(piece);
 }
@@ -56,7 +54,7 @@ fn fill<A: Allocator>(ring: &mut Ring<A>, at: usize, piece: &[u8])
     requires within { at + length piece.now ≤ 65536 }
     ensures size { length ring.new.bytes.items ≡ 65536 }
     ensures words { length ring.new.marks.items ≡ 1024 }
-    ensures fills { (k : ℕ) → k < 65536 → place ring.new.bytes.items ring.new.marks.items k ≡ option_or (place ring.old.bytes.items ring.old.marks.items k) (byte_at at piece.now k) }
+    ensures fills { FillsPlaces at piece.now (places ring.old) (places ring.new) }
 {
     let end = at + piece.len();
     let mut from = at;
@@ -76,8 +74,8 @@ fn lay<A: Allocator>(ring: &mut Ring<A>, offset: u64, piece: &[u8])
     requires few { length piece.now ≤ 65536 }
     ensures size { length ring.new.bytes.items ≡ 65536 }
     ensures words { length ring.new.marks.items ≡ 1024 }
-    ensures lays { (q : ℕ) → offset ≤ q → q < offset + 65536 → cell ring.new.bytes.items ring.new.marks.items q ≡ option_or (cell ring.old.bytes.items ring.old.marks.items q) (byte_at offset piece.now q) }
-    ensures around { (q : ℕ) → q < offset → offset + length piece.now ≤ q + 65536 → cell ring.new.bytes.items ring.new.marks.items q ≡ cell ring.old.bytes.items ring.old.marks.items q }
+    ensures lays { JoinsBytes offset (byte_at offset piece.now) (cells ring.old) (cells ring.new) }
+    ensures around { KeepsBytesBefore offset piece.now (cells ring.old) (cells ring.new) }
 {
     let at = place_of(offset);
     let front = piece.len().min(PLACES - at);
@@ -94,7 +92,7 @@ pub fn join<A: Allocator>(ring: &mut Ring<A>, offset: u64, piece: &[u8], low: u6
     requires near { min high (offset + length piece.now) ≤ low + 65536 }
     ensures size { length ring.new.bytes.items ≡ 65536 }
     ensures words { length ring.new.marks.items ≡ 1024 }
-    ensures joins { (q : ℕ) → low ≤ q → q < low + 65536 → cell ring.new.bytes.items ring.new.marks.items q ≡ option_or (cell ring.old.bytes.items ring.old.marks.items q) (if nat_lt q high then byte_at offset piece.now q else None) }
+    ensures joins { JoinsBytes low (byte_below high offset piece.now) (cells ring.old) (cells ring.new) }
     ensures past { result ≡ (if nat_lt (max offset low) (min high (offset + length piece.now)) then min high (offset + length piece.now) else 0) }
 {
     let end = high.min(offset + piece.len() as u64);
@@ -150,7 +148,7 @@ pub fn forget<A: Allocator>(ring: &mut Ring<A>, first: u64, count: usize)
     requires few { count ≤ 65536 }
     ensures bytes { ring.new.bytes.items ≡ ring.old.bytes.items }
     ensures words { length ring.new.marks.items ≡ 1024 }
-    ensures left { (q : ℕ) → first + count ≤ q → q < first + count + 65536 → cell ring.new.bytes.items ring.new.marks.items q ≡ (if nat_lt q (first + 65536) then cell ring.old.bytes.items ring.old.marks.items q else None) }
+    ensures left { ForgetsBytes first count (cells ring.old) (cells ring.new) }
 {
     let at = place_of(first);
     let front = count.min(PLACES - at);

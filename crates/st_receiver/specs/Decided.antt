@@ -1,6 +1,6 @@
 -- What a decision says, and what a read gave, in the definitions' terms.
-use Rattle.std.specs.Prelude.{◌≡◌, ℕ, ◌⊎◌, Option, None, Some}
-use Rattle.st_frames.specs.Frames.{Packet}
+use Rattle.std.specs.Prelude.{◌≡◌, ℕ, ◌⊎◌, Option, None, Some, List}
+use Rattle.st_frames.specs.Frames.{Packet, Known, frames_of}
 use Rattle.st_receiver.specs.declared.reason.Reason.TheVariants.{NoMemory}
 use Rattle.st_receiver.specs.declared.intake.Decision.{Decision}
 use Rattle.st_receiver.specs.declared.intake.Decision.TheVariants.{Fulfill, Reject}
@@ -12,6 +12,7 @@ use Rattle.st_receiver.specs.Reasons.{code_of}
 use Rattle.st_receiver.specs.Streams.{Receiving}
 use Rattle.st_receiver.specs.Judged.{fault_of, effect}
 use Rattle.st_receiver.specs.Standing.{Standing, HasRoom}
+use Rattle.st_receiver.specs.Limits.{reply_frames}
 
 -- a plan by which the packet may take effect: it breaks no rule, and there is room
 pub record IsPlanFor (s : Standing) (p : Packet) (plan : Plan) : Type 0 where
@@ -28,6 +29,10 @@ IsDecision s p amount (Reject code reason) =
 abbrev pub state_by : Receiving → Packet → Option Plan → Receiving
 state_by r p None = r
 state_by r p (Some plan) = effect r p plan.amount
+
+-- the limits in the reply to a packet, once its answer was chosen
+abbrev pub limits_in_reply : Receiving → Packet → Option Plan → List Known
+limits_in_reply r p plan = reply_frames (state_by r p plan) (frames_of p)
 
 abbrev pub got_seen : {X : Type 0} → Got X → reading.Got
 got_seen (Bytes bytes) = reading.Bytes bytes.items

@@ -1,5 +1,5 @@
 -- How a packet is judged while nothing changes: by the streams as they were, and the highest byte ends as they would be.
-use Rattle.std.specs.Prelude.{◌≡◌, ◌<◌, ℕ, zero, suc, ◌+◌, Bool, true, false, not, ◌&&◌, ◌||◌, List, [], ◌∷◌, length, map, max, sum, slice_index, slice_set, nat_eq, nat_lt, is_err, if◌then◌else◌}
+use Rattle.std.specs.Prelude.{◌≡◌, ◌<◌, ℕ, zero, suc, ◌+◌, Bool, true, false, not, ◌&&◌, ◌||◌, List, [], ◌∷◌, length, map, max, sum, slice_index, slice_set, nat_eq, nat_lt, is_err, if◌then◌else◌, cond, ◌++◌}
 use Rattle.std.specs.declared.option.Option.{Option}
 use Rattle.std.specs.declared.option.Option.TheVariants.{None, Some}
 use Rattle.std.specs.Option.{option_or}
@@ -15,6 +15,9 @@ use Rattle.st_receiver.specs.declared.closing.Tally.{Tally}
 use Rattle.st_receiver.specs.Streams.{Incoming, Receiving, incoming_at, may_name, received_of, read_of}
 use Rattle.st_receiver.specs.Data.{stream_fault, frames_fault, after_frames}
 use Rattle.st_receiver.specs.Limits.{told_by}
+use Rattle.st_receiver.specs.Money.{after_money}
+use Rattle.st_frames.specs.declared.frame.Frame.{Frame}
+use Rattle.st_frames.specs.Seen.{seen}
 
 -- what a stream holds, or a new one
 abbrev pub held_or : Option Incoming → Held
@@ -99,7 +102,15 @@ mix zero gs os = os
 mix (suc k) (g ∷ gs) (o ∷ os) = g ∷ mix k gs os
 mix (suc k) gs os = os
 
+-- what a stream is credited in all, once the frames of a packet with this amount took effect
+abbrev pub credited_after : Receiving → (amount : ℕ) → List Known → ℕ → ℕ
+credited_after r amount fs k = (incoming_at (after_money (after_frames r fs) amount fs) k).credited
+
 -- ---- what a reply reports
+
+-- these frames were appended
+abbrev pub Appends : List Known → (old new : List Frame) → Type 0
+Appends told old new = map seen new ≡ map seen old ++ told
 
 -- the highest byte ends once frames arrived, or why they are rejected
 abbrev pub IsEnds : Receiving → List Known → Result (List ℕ) Reason → Type 0
@@ -132,6 +143,10 @@ abbrev pub aborted_read : Option Incoming → ℕ
 aborted_read None = 0
 aborted_read (Some x) = if is_over x.held then read_of (Some x) else x.highest
 
+-- the same by number: what counts as read of a direction that has ended, else all that arrived
+abbrev pub read_once_aborted : Tally → ℕ → ℕ
+read_once_aborted t k = cond (slice_index_or t.over k false) (slice_index t.reads k) (slice_index t.ends k)
+
 abbrev pub is_number : ℕ → Option ℕ → Bool
 is_number k None = false
 is_number k (Some n) = nat_eq n k
@@ -139,6 +154,10 @@ is_number k (Some n) = nat_eq n k
 -- another total in place of what was credited
 abbrev pub with_total : ℕ → Incoming → Incoming
 with_total total x = record x { credited = total }
+
+-- the limits of a stream with another total
+abbrev pub told_with : (total stream : ℕ) → Incoming → List Known
+told_with total k x = told_by k (with_total total x)
 
 abbrev pub limits_with : Receiving → (stream total : ℕ) → List Known
 limits_with r k total = if may_name r k then told_by k (with_total total (incoming_at r k)) else []

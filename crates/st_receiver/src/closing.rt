@@ -1,7 +1,7 @@
 //! What counts as read on each stream once a packet took effect: on a stream that it aborts, all bytes that arrived.
 //! The connection's limit on offsets follows from it. Nothing changes.
 
-ghost use Rattle.std.specs.Prelude.{◌≡◌, ◌<◌, ℕ, List, map, length, slice_index, slice_index_or, None, cond, false};
+ghost use Rattle.std.specs.Prelude.{◌≡◌, ◌<◌, ℕ, map, length, slice_index, None, false};
 ghost use Rattle.std.specs.List.{list_any};
 ghost use Rattle.st_frames.specs.Frames.{frame_of};
 ghost use Rattle.st_frames.specs.Seen.{seen};
@@ -106,7 +106,7 @@ impl Tally {
     /// What counts as read once each direction that has not ended is aborted.
     fn aborted(&self) -> [u64; 65]
         ensures size { length result ≡ 65 }
-        ensures reads { (k : ℕ) → k < 65 → slice_index result k ≡ cond (slice_index_or self.now.over k false) (slice_index self.now.reads k) (slice_index self.now.ends k) }
+        ensures reads { (k : ℕ) → k < 65 → slice_index result k ≡ inside.read_once_aborted self.now k }
     {
         let mut reads = [0; 65];
         for k in 0..65 {

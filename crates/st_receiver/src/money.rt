@@ -1,6 +1,6 @@
 //! The split of a packet's amount over its streams.
 
-ghost use Rattle.std.specs.Prelude.{◌≡◌, ◌<◌, ◌≤◌, ◌+◌, ◌*◌, ◌/◌, ◌^◌, ℕ, List, map, sum, set, length, slice_index, MatchOption, None, false, IsTrue};
+ghost use Rattle.std.specs.Prelude.{◌≡◌, ◌<◌, ◌≤◌, ◌+◌, ◌*◌, ◌/◌, ◌^◌, ℕ, List, map, sum, length, slice_index, MatchOption, None, false};
 ghost use Rattle.st_frames.specs.Frames.{frame_of};
 ghost use Rattle.st_frames.specs.Seen.{seen};
 ghost use Rattle.st_frames.specs.Told.{shares};
@@ -250,7 +250,7 @@ impl<A: Allocator + Copy> Intake<A> {
     pub(crate) fn totals_after(&self, frames: Frames<'_>, amount: u64) -> [u64; 65]
         requires lawful { taken.frames_fault self.now.state (map frame_of frames) ≡ None }
         requires pays { money.money_fault (taken.after_frames self.now.state (map frame_of frames)) amount (map frame_of frames) ≡ None }
-        ensures { (k : ℕ) → k < 65 → slice_index result k ≡ (incoming_at (money.after_money (taken.after_frames self.now.state (map frame_of frames.entry)) amount (map frame_of frames.entry)) k).credited }
+        ensures { (k : ℕ) → k < 65 → slice_index result k ≡ inside.credited_after self.now.state amount (map frame_of frames.entry) k }
     {
         if amount == 0 {
             return all_credited(&self.slots);

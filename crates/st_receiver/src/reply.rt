@@ -3,14 +3,14 @@
 ghost use Rattle.std.specs.Prelude.{◌≡◌, ◌<◌, ◌||◌, ℕ, map, slice_index_or, false, None, IfSome, IfOk, IsOkUnless};
 ghost use Rattle.std.specs.List.{list_any};
 ghost use Rattle.std.specs.Option.{option_copied};
-ghost use Rattle.st_frames.specs.Frames.{frame_of, frames_of};
+ghost use Rattle.st_frames.specs.Frames.{frame_of};
 ghost use Rattle.st_frames.specs.Packets.{packet_of};
 ghost use Rattle.st_frames.specs.Seen.{seen};
 ghost use Rattle.st_frames.specs.Told.{names};
 ghost use Rattle.st_receiver.specs.Data as taken;
 ghost use Rattle.st_receiver.specs.Judged.{after_all};
 ghost use Rattle.st_receiver.specs.Limits as limits;
-ghost use Rattle.st_receiver.specs.Decided.{IsPlanFor, state_by};
+ghost use Rattle.st_receiver.specs.Decided.{IsPlanFor, limits_in_reply};
 ghost use Rattle.st_receiver.specs.Inside as inside;
 
 use crate::decide::limit_by;
@@ -77,7 +77,7 @@ impl<A: Allocator + Copy> Intake<A> {
     ) -> Result<Vec<Frame<'f>, A>, Reason>
         requires plan { IfSome (option_copied plan) (IsPlanFor self.now (packet_of packet.now)) }
         ensures only_memory { IsOkUnless result Reason.NoMemory }
-        ensures told { IfOk result (λ frames. map seen frames.items ≡ limits.reply_frames (state_by self.now.state (packet_of packet.now) (option_copied plan.entry)) (frames_of (packet_of packet.now))) }
+        ensures told { IfOk result (λ frames. map seen frames.items ≡ limits_in_reply self.now.state (packet_of packet.now) (option_copied plan.entry)) }
     {
         let named = named_in(packet.frames.again());
         match plan {

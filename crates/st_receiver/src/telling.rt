@@ -1,10 +1,10 @@
 //! The limits that an end advertises to its peer (RFC 0029, section 5.3).
 
-ghost use Rattle.std.specs.Prelude.{◌≡◌, ◌<◌, ◌++◌, map, cond, [], IfOk, OnOk, IsOkUnless};
+ghost use Rattle.std.specs.Prelude.{◌≡◌, ◌<◌, map, cond, [], IfOk, OnOk, IsOkUnless};
 ghost use Rattle.st_frames.specs.Seen.{seen};
 ghost use Rattle.st_receiver.specs.Streams.{fresh_incoming, incoming_or, incoming_at};
-ghost use Rattle.st_receiver.specs.Limits.{told_by, limits};
-ghost use Rattle.st_receiver.specs.Inside.{with_total, limits_with, told_frames};
+ghost use Rattle.st_receiver.specs.Limits.{limits};
+ghost use Rattle.st_receiver.specs.Inside.{limits_with, told_frames, Appends, told_with};
 
 use crate::decide::capped;
 use crate::incoming::Incoming;
@@ -26,7 +26,7 @@ fn push_both<'f, A: Allocator + Copy>(
     total_received: u64,
 ) -> Result<(), Reason>
     ensures only_memory { IsOkUnless result Reason.NoMemory }
-    ensures told { OnOk result (map seen frames.new.items ≡ map seen frames.old.items ++ told_by stream (with_total total_received (incoming_or (fresh_incoming kept) slot.now))) }
+    ensures told { OnOk result (Appends (told_with total_received stream (incoming_or (fresh_incoming kept) slot.now)) frames.old.items frames.new.items) }
 {
     let (read, receive_max) = match slot {
         Some(incoming) => (incoming.read_count(), incoming.receive_max()),
@@ -54,7 +54,7 @@ impl<A: Allocator + Copy> Intake<A> {
     ) -> Result<(), Reason>
         requires { stream < 65 }
         ensures only_memory { IsOkUnless result Reason.NoMemory }
-        ensures told { OnOk result (map seen frames.new.items ≡ map seen frames.old.items ++ told_by stream (with_total total_received (incoming_at self.now.state stream))) }
+        ensures told { OnOk result (Appends (told_with total_received stream (incoming_at self.now.state stream)) frames.old.items frames.new.items) }
     {
         let k = stream as usize;
         push_both(frames, stream, &self.slots[k], self.kept[k], total_received)
@@ -70,7 +70,7 @@ impl<A: Allocator + Copy> Intake<A> {
     ) -> Result<(), Reason>
         requires { stream < 65 }
         ensures only_memory { IsOkUnless result Reason.NoMemory }
-        ensures told { OnOk result (map seen frames.new.items ≡ map seen frames.old.items ++ cond is_named (limits_with self.now.state stream total_received) []) }
+        ensures told { OnOk result (Appends (cond is_named (limits_with self.now.state stream total_received) []) frames.old.items frames.new.items) }
     {
         if is_named && self.may_name(stream) {
             return self.push_stream(frames, stream, total_received);

@@ -1,5 +1,5 @@
 -- Runs of offsets, each up to its end, and the status of the bytes there.
-use Rattle.std.specs.Prelude.{◌≡◌, ◌≢◌, ℕ, zero, suc, ◌+◌, ◌-◌, ◌*◌, ◌^◌, ◌<◌, ◌≤◌, Bool, false, ◌&&◌, nat_lt, is_none, List, [], ◌∷◌, length, drop, Option, Some, None, IsSome, slice_index, if◌then◌else◌}
+use Rattle.std.specs.Prelude.{◌≡◌, ◌≢◌, ℕ, zero, suc, ◌+◌, ◌-◌, ◌*◌, ◌^◌, ◌<◌, ◌≤◌, Bool, false, ◌&&◌, nat_lt, is_none, List, [], ◌∷◌, length, drop, Option, Some, None, IsSome, slice_index, if◌then◌else◌, true, MatchOption}
 use Rattle.std.specs.Option.{option_or}
 use Rattle.st_unacked.specs.declared.run.Run.{Run}
 use Rattle.st_unacked.specs.declared.run.Status.{Status}
@@ -105,3 +105,15 @@ counted passes first (suc n) = counted passes first n + (if passes (first + n) t
 -- how many of them are kept
 abbrev pub kept_in : List Run → ℕ → ℕ → ℕ
 kept_in runs first n = counted (λ q. is_kept (status_at runs q)) first n
+
+-- the least q from `first` on for which `is` holds, if there is one
+abbrev pub IsFirst : ℕ → (ℕ → Bool) → Option ℕ → Type 0
+IsFirst first is found = MatchOption found ((q : ℕ) → first ≤ q → is q ≡ false) (λ from. (first ≤ from) × (is from ≡ true) × ((q : ℕ) → first ≤ q → q < from → is q ≡ false))
+
+-- the runs end at `end` or later, and the bytes before it that had no run have this status
+abbrev pub AreAppended : (first end : ℕ) → Status → (old new : List Run) → Type 0
+AreAppended first end status old new = (q : ℕ) → first ≤ q → status_at new q ≡ option_or (status_at old q) (if nat_lt q end then Some status else None)
+
+-- a run that ends past those of `old` was put after them
+abbrev pub IsPut : Run → (old new : List Run) → Type 0
+IsPut run old new = (first : ℕ) → Parted first old → end_of first old < run.end → HasMore first old run new
