@@ -1,13 +1,14 @@
 //! The keys that both ends derive from their shared secret (RFC 0029).
 
-ghost use Rattle.std.specs.Prelude.{◌≡◌, ◌↔◌, IsTrue};
+ghost use Rattle.std.specs.Prelude.{◌≡◌, ◌≤◌, ◌↔◌, IsTrue, length, map};
 ghost use Rattle.std.specs.Bool.{OnTrue, OnFalse};
 ghost use Rattle.st_aes.specs.Gcm.{tag, counter_mode};
 ghost use Rattle.st_keys.specs.Keys.{keys_of, fulfillment, condition};
 
-use crate::mac::hmac;
+use crate::mac::{block_key, hmac};
 use sha2::{Digest, Sha256};
 use st_aes::{Key, seal, unseal};
+use st_lanes::{Keyed, LANES};
 use std::marker::Model;
 
 /// The keys of a connection, derived once from its shared secret of 32 bytes (RFC 0029). The secret itself is not
@@ -61,6 +62,19 @@ impl Keys {
         ensures { result ≡ fulfillment self.now payload.now }
     {
         hmac(&self.fulfillment, payload)
+    }
+
+    /// The fulfillments of the Prepares with these payloads (RFC 0029), each as `fulfillment` gives it, in the order of the
+    /// payloads. Takes at most `LANES` payloads, of any lengths, and as many places. Does not allocate.
+    ///
+    /// They are computed side by side. So payloads of like lengths should be given together, and for one payload
+    /// `fulfillment` takes less time.
+    pub fn fulfillments(&self, payloads: &[&[u8]], out: &mut [[u8; 32]])
+        requires few { length payloads.now ≤ LANES }
+        requires places { length out.old ≡ length payloads.now }
+        ensures { out.new ≡ map (fulfillment self.now) (map (λ p. p.now) payloads.now) }
+    {
+        Keyed::of(block_key(&self.fulfillment)).hmacs(payloads, out);
     }
 }
 

@@ -1,7 +1,8 @@
 //! The keys of a STREAM connection and its encrypted packets (RFC 0029): the data field of an ILP packet.
 //!
 //! `Keys` derives all keys from the shared secret. `seal_packet` gives the payload of one packet. `open_packet`
-//! decrypts a payload in place and reads its packet. `fulfillment` and `condition` give those of a payload.
+//! decrypts a payload in place and reads its packet. `fulfillment` and `condition` give those of a payload, and
+//! `fulfillments` gives those of up to eight.
 //! `KeyError::number` is the number of an error, and `KeyError::inner` that of the packet's error.
 #![tactic(auto)]
 
@@ -17,3 +18,4 @@ pub use laws::{hashes_have_32_bytes, opens_without_memory, payload_lengths, seal
 pub use mac::hmac;
 pub use payload::OVERHEAD;
 pub use st_frames::{Frame, FrameError, Frames, StreamPacket};
+pub use st_lanes::LANES;

@@ -18,7 +18,7 @@ fn put_front(out: &mut [u8], front: &[u8])
 
 /// A key as one block: a key longer than a block is hashed first, a shorter one is padded with zeros.
 #[tactic(auto, unfolding(crate::specs::Mac::block_key))]
-fn block_key(key: &[u8]) -> [u8; 64]
+pub(crate) fn block_key(key: &[u8]) -> [u8; 64]
     ensures { result ≡ block_key key.now }
 {
     let mut out = [0u8; BLOCK];
