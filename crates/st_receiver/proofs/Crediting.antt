@@ -252,7 +252,8 @@ paid_credit r amount fs k xs len pos l e =
 frame_credit : (r : Receiving) (f : Known) → (after_frame r f).credit ≡ r.credit
 frame_credit r (StreamData k o xs) = refl
 frame_credit r (StreamMoney k n) = refl
-frame_credit r (CloseFrame c) = refl
+frame_credit r (CloseFrame (StreamClose k code message)) = refl
+frame_credit r (CloseFrame (ConnectionClose code message)) = refl
 frame_credit r (OtherFrame o) = refl
 frame_credit r (LimitFrame l) = refl
 frame_credit r (BlockedFrame b) = refl
