@@ -19,7 +19,7 @@ use Rattle.ilpstream_log.specs.declared.event.Heard.{Heard}
 use Rattle.ilpstream_log.specs.declared.event.Heard.TheVariants as heard
 use Rattle.ilpstream_log.specs.declared.event.Kind.{Kind}
 use Rattle.ilpstream_log.specs.declared.event.Kind.TheVariants as kind
-use Rattle.ilpstream_log.specs.declared.event.EndCounts.{EndCounts}
+use Rattle.st_streams.specs.declared.totals.EndTotals.{EndTotals}
 use Rattle.ilpstream_log.specs.declared.event.AccountCounts.{AccountCounts}
 
 -- a text, and then another one, which is the rest of a line
@@ -206,7 +206,7 @@ closed_text stream = codes "closed stream=" ⧺ decimal stream ⧺ 10 ∷ []
 abbrev pub aborted_text : (stream code : ℕ) → List ℕ
 aborted_text stream code = codes "closed stream=" ⧺ decimal stream ⧺ codes " code=" ⧺ decimal code ⧺ 10 ∷ []
 
-abbrev pub end_text : EndCounts → List ℕ
+abbrev pub end_text : EndTotals → List ℕ
 end_text t = codes "totals accepted=" ⧺ decimal t.accepted ⧺ codes " delivered=" ⧺ decimal t.delivered
     ⧺ codes " credited=" ⧺ decimal t.credited ⧺ codes " paid=" ⧺ decimal t.paid ⧺ 10 ∷ []
 

@@ -3,6 +3,8 @@
 ghost use Rattle.std.specs.Prelude.{◌≡◌, ◌<◌};
 ghost use Rattle.ilpstream_log.specs.Lines as spec;
 
+use st_streams::EndTotals;
+
 /// One event of a run. The neighbour that it is about is given separately: the number of an account at a connector, and 0 at
 /// `send` and `receive`. No event has a secret, a token or a payload.
 #[derive(Clone, Copy)]
@@ -66,7 +68,7 @@ pub enum Event<'a> {
         code: Option<u64>,
     },
     /// The totals of an end so far.
-    End(EndCounts),
+    End(EndTotals),
     /// The totals of the neighbour's account so far.
     Account(AccountCounts),
     /// How many exchanges with the neighbour brought a Reject of one code so far.
@@ -228,19 +230,6 @@ pub enum Lost {
     Status(u16),
     /// It ended, failed or was silent before its request was whole, or the response could not be written.
     Cut,
-}
-
-/// The totals of an end.
-#[derive(Clone, Copy, Debug, PartialEq, Eq)]
-pub struct EndCounts {
-    /// Bytes that were accepted to be sent.
-    pub accepted: u64,
-    /// Bytes of the peer that were read.
-    pub delivered: u64,
-    /// Units that arrived.
-    pub credited: u64,
-    /// Units that were paid.
-    pub paid: u64,
 }
 
 /// The totals of an account of a connector.

@@ -4,10 +4,11 @@ ghost use Rattle.std.specs.Prelude.{◌≡◌, ◌++◌, IfOk, string_bytes};
 ghost use Rattle.ilpstream_log.specs.Lines as spec;
 
 use crate::date::date_text;
-use crate::event::{AccountCounts, Blocked, Cause, EndCounts, Event, Heard, Kind, Lost};
+use crate::event::{AccountCounts, Blocked, Cause, Event, Heard, Kind, Lost};
 use crate::quote::{bare, code_text, quoted, quoted_short};
 use crate::starts::start_text;
 use st_ilp::Moment;
+use st_streams::EndTotals;
 use std::alloc::{AllocError, Global};
 
 fn listening_text(alloc: Global, address: &str) -> Result<String, AllocError>
@@ -212,10 +213,10 @@ fn aborted_text(alloc: Global, stream: u64, code: u64) -> Result<String, AllocEr
     Ok(text)
 }
 
-fn end_text(alloc: Global, totals: EndCounts) -> Result<String, AllocError>
+fn end_text(alloc: Global, totals: EndTotals) -> Result<String, AllocError>
     ensures { IfOk result (λ text. string_bytes text ≡ spec.end_text totals) }
 {
-    let EndCounts {
+    let EndTotals {
         accepted,
         delivered,
         credited,

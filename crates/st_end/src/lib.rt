@@ -41,4 +41,4 @@ pub use st_keys::Keys;
 pub use st_oer::{Rate, is_address};
 pub use st_receiver::Got;
 pub use st_sender::{Blocked, EndConfig};
-pub use totals::Totals;
+pub use st_streams::EndTotals as Totals;
