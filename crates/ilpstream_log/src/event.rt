@@ -3,7 +3,7 @@
 ghost use Rattle.std.specs.Prelude.{◌≡◌, ◌<◌};
 ghost use Rattle.ilpstream_log.specs.Lines as spec;
 
-use st_streams::EndTotals;
+use st_streams::{Blocked, EndTotals};
 
 /// One event of a run. The neighbour that it is about is given separately: the number of an account at a connector, and 0 at
 /// `send` and `receive`. No event has a secret, a token or a payload.
@@ -184,32 +184,6 @@ pub enum Unreached {
     Refused,
     /// No connection was made in time.
     Timeout,
-}
-
-/// A limit of the peer at which an end waits: what it reports in a Blocked frame (RFC 0029, section 5.3).
-#[derive(Clone, Copy, Debug, PartialEq, Eq)]
-pub enum Blocked {
-    /// The limit on the bytes of all streams together.
-    ConnectionData {
-        /// The most bytes.
-        limit: u64,
-    },
-    /// The limit on the bytes of a stream.
-    StreamData {
-        /// The number of the stream.
-        stream: u64,
-        /// The most bytes.
-        limit: u64,
-    },
-    /// The receive max of a stream.
-    StreamMoney {
-        /// The number of the stream.
-        stream: u64,
-        /// The most units that the peer accepts on it.
-        receive_max: u64,
-        /// The units that were paid on it.
-        total: u64,
-    },
 }
 
 /// What became of a line by which a command was asked something.
