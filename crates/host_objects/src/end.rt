@@ -12,63 +12,15 @@ ghost use Rattle.st_end.specs.Reading as reading;
 ghost use Rattle.st_end.specs.Receiving.{received};
 ghost use Rattle.host_objects.specs.Ends.{IsNewEnd, IsSameEnd, IsFlight, HasNoFlight, IsSpent, answered_seen, piece_seen, IfNoBytes};
 
-use st_end::{EndError, EndState, Flight, Received, Role};
+use st_end::{EndError, EndState, OpenFlight, Received, Role};
 use st_ilp::Moment;
 use st_keys::Keys;
 use st_receiver::Got;
 use st_sender::EndConfig;
 use std::alloc::Global;
-use std::marker::Model;
-
-/// A flight that waits for its answer. If its owner is freed it is abandoned.
-pub struct KeptFlight {
-    flight: Flight,
-}
-
-impl Model for KeptFlight {
-    ghost use Rattle.st_end.specs.declared.flight.Open as open_flight;
-
-    ghost Value = { open_flight.Open };
-
-    ghost view = { λ k. k.flight };
-}
-
-impl Drop for KeptFlight {
-    fn drop(self) {
-        let KeptFlight { flight } = self;
-        flight.abandon();
-    }
-}
-
-impl KeptFlight {
-    fn new(flight: Flight) -> KeptFlight
-        ensures { result ≡ flight }
-    {
-        KeptFlight { flight }
-    }
-
-    fn sequence(&self) -> u64
-        ensures { result ≡ self.now.sequence }
-    {
-        self.flight.read().sequence
-    }
-
-    fn is_open(&self, state: &EndState<Global>) -> bool
-        ensures { result ≡ is_open state.now self.now }
-    {
-        state.is_open(&self.flight)
-    }
-
-    fn spend(self) -> Flight
-        ensures { result ≡ self }
-    {
-        let KeptFlight { flight } = self;
-        flight
-    }
-}
 
 /// The place of an open flight of this sequence.
-fn place_of(state: &EndState<Global>, kept: &[KeptFlight], sequence: u64) -> Option<usize>
+fn place_of(state: &EndState<Global>, kept: &[OpenFlight], sequence: u64) -> Option<usize>
     ensures { MatchOption result (HasNoFlight state.now kept.now sequence) (λ place. (f : open_flight.Open) × IsFlight state.now kept.now sequence place f) }
 {
     for (place, flight) in kept.iter().enumerate() {
@@ -109,7 +61,7 @@ pub struct HostEnd {
     /// The end.
     pub state: EndState<Global>,
     /// Its open flights, in the order in which they were given out.
-    pub flights: Vec<KeptFlight>,
+    pub flights: Vec<OpenFlight>,
     /// The bytes that the last call returned.
     pub output: Vec<u8>,
 }
@@ -148,7 +100,7 @@ impl HostEnd {
             None => Ok(None),
             Some((flight, bytes)) => {
                 let sequence = flight.read().sequence;
-                self.flights.push_reserved(KeptFlight::new(flight));
+                self.flights.push_reserved(OpenFlight::new(flight));
                 self.output = bytes;
                 Ok(Some(sequence))
             }

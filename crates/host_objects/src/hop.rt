@@ -1,82 +1,20 @@
 //! A hop, with the tickets that wait for their answer and the bytes that the last call returned.
 
-ghost use Rattle.std.specs.Prelude.{◌≡◌, ◌↔◌, ◌<◌, ◌++◌, ◌∷◌, [], ℕ, pos, length, map, nat_lt, Some, None, OnOk, OnErr, IfOk, IfErr, IsTrue, IsOk, IsOkUnless, IsErrOf, MatchBool, MatchOption};
+ghost use Rattle.std.specs.Prelude.{◌≡◌, ◌<◌, ◌++◌, ◌∷◌, [], ℕ, pos, length, map, nat_lt, Some, None, OnOk, OnErr, IfOk, IfErr, IsOk, IsOkUnless, IsErrOf, MatchBool, MatchOption};
 ghost use Rattle.st_hop.specs.declared.ticket.Open as open_ticket;
 ghost use Rattle.st_hop.specs.Books.{AreBooks, WhyNotRestored, restored};
 ghost use Rattle.st_links.specs.Outcomes.{outcome_seen};
 ghost use Rattle.st_hop.specs.Seen.{way_seen};
-ghost use Rattle.st_hop.specs.Settling.{is_booked};
 ghost use Rattle.st_hop.specs.Table.{is_table, new_hop};
-ghost use Rattle.st_hop.specs.Tickets.{IsAmong};
 ghost use Rattle.host_objects.specs.Hops.{IsNewHop, IsSameHop, IsTicket, HasNoTicket, Arrives, IsSettled, IsAbandoned, IsRestarted, IsToldBooking};
 
-use st_hop::{Account, HopError, HopState, Open, Route, Ticket, Verdict, books_go_on};
+use st_hop::{Account, HopError, HopState, Open, OpenTicket, Route, Verdict, books_go_on};
 use st_ilp::Moment;
 use st_links::Outcome;
 use std::alloc::{AllocError, Global};
-use std::marker::Model;
-
-/// A ticket that waits for its answer. If its owner is freed it is abandoned.
-pub struct KeptTicket {
-    ticket: Ticket,
-}
-
-impl Model for KeptTicket {
-    ghost use Rattle.st_hop.specs.declared.ticket.Open as open_ticket;
-
-    ghost Value = { open_ticket.Open };
-
-    ghost view = { λ k. k.ticket };
-}
-
-impl Drop for KeptTicket {
-    fn drop(self) {
-        let KeptTicket { ticket } = self;
-        ticket.abandon();
-    }
-}
-
-impl KeptTicket {
-    fn new(ticket: Ticket) -> KeptTicket
-        ensures { result ≡ ticket }
-    {
-        KeptTicket { ticket }
-    }
-
-    fn number(&self) -> u64
-        ensures { result ≡ self.now.number }
-    {
-        self.ticket.read().number
-    }
-
-    fn is_open(&self, state: &HopState<Global>) -> bool
-        ensures { IsTrue result ↔ IsAmong state.now.tickets self.now }
-    {
-        state.is_open(&self.ticket)
-    }
-
-    fn books(&self, outcome: &Outcome<Global>, now: Moment) -> bool
-        ensures { result ≡ is_booked self.now (outcome_seen outcome.now) now }
-    {
-        self.ticket.is_booked_by(outcome, now)
-    }
-
-    fn read(&self) -> Open
-        ensures { result ≡ self.now }
-    {
-        self.ticket.read()
-    }
-
-    fn spend(self) -> Ticket
-        ensures { result ≡ self }
-    {
-        let KeptTicket { ticket } = self;
-        ticket
-    }
-}
 
 /// The place of an open ticket of this number.
-fn place_of(state: &HopState<Global>, kept: &[KeptTicket], number: u64) -> Option<usize>
+fn place_of(state: &HopState<Global>, kept: &[OpenTicket], number: u64) -> Option<usize>
     ensures { MatchOption result (HasNoTicket state.now kept.now number) (λ place. (t : open_ticket.Open) × IsTicket state.now kept.now number place t) }
 {
     for (place, ticket) in kept.iter().enumerate() {
@@ -118,7 +56,7 @@ pub struct HostHop {
     /// The hop.
     pub state: HopState<Global>,
     /// Its open tickets, in the order in which they were given out.
-    pub tickets: Vec<KeptTicket>,
+    pub tickets: Vec<OpenTicket>,
     /// The bytes that the last call returned.
     pub output: Vec<u8>,
 }
@@ -195,7 +133,7 @@ impl HostHop {
                 bytes,
             } => {
                 let number = ticket.read().number;
-                self.tickets.push_reserved(KeptTicket::new(ticket));
+                self.tickets.push_reserved(OpenTicket::new(ticket));
                 self.output = bytes;
                 Ok(Way::Onward {
                     ticket: number,

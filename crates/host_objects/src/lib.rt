@@ -21,10 +21,10 @@ mod packet;
 pub use code::{
     ABORTED, ARGUMENT, DONE, ENDED, IDLE, MISUSE, ONWARD, ROOM, UNKNOWN, code_of, hop_code_of,
 };
-pub use end::{Answered, HostEnd, KeptFlight, Piece};
+pub use end::{Answered, HostEnd, Piece};
 pub use frame::KeptFrame;
 pub use handle::Handle;
-pub use hop::{HostHop, KeptTicket, Settling, Way};
+pub use hop::{HostHop, Settling, Way};
 pub use keys::HostKeys;
 pub use message::{HostMessage, HostSide, Progress};
 pub use object::Object;

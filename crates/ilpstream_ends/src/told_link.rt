@@ -3,14 +3,13 @@
 ghost use Rattle.std.specs.Prelude.{◌≡◌};
 ghost use Rattle.ilpstream_serving.specs.Telling.{end_told, wait_told};
 
-use ilpstream_log::{Blocked as At, Cause, Event};
+use ilpstream_log::{Blocked, Cause, Event};
 use ilpstream_serving::{HttpLink, Latest, Log, cause_in, cause_of, tell};
 use st_devices::Counted;
 use st_end::{Failed, FailedKind};
 use st_hub::Observer;
 use st_ilp::Moment;
 use st_links::{Link, LinkFault};
-use st_sender::Blocked;
 use std::alloc::Global;
 use std::net::Net;
 use std::time::Clock;
@@ -97,23 +96,7 @@ fn event_of(failed: &Failed, limit: u64) -> Option<Event<'static>>
 fn wait_of(blocked: Blocked) -> Event<'static>
     ensures { result ≡ wait_told blocked }
 {
-    let at = match blocked {
-        Blocked::Connection { max_offset } => At::ConnectionData { limit: max_offset },
-        Blocked::Data { stream, max_offset } => At::StreamData {
-            stream,
-            limit: max_offset,
-        },
-        Blocked::Money {
-            stream,
-            receive_max,
-            total,
-        } => At::StreamMoney {
-            stream,
-            receive_max,
-            total,
-        },
-    };
-    Event::Waits(at)
+    Event::Waits(blocked)
 }
 
 /// Reports Prepares that failed to the log, if the link does not, and limits of the peer.
@@ -133,12 +116,9 @@ impl<R: Clock> Observer for ToldFlights<'_, R> {
     }
 
     fn waits(&mut self, blocked: Blocked) {
-        let event = wait_of(blocked);
-        if let Event::Waits(limit) = event {
-            if let Some(last) = self.told.last {
-                last.reaches(limit);
-            }
+        if let Some(last) = self.told.last {
+            last.reaches(blocked);
         }
-        tell(self.rt, self.told.log, 0, &event);
+        tell(self.rt, self.told.log, 0, &wait_of(blocked));
     }
 }

@@ -10,8 +10,8 @@ use Rattle.st_hop.specs.Runs.{run, fulfilled}
 use Rattle.st_hop.proofs.HopRuns.{Gains, runs}
 use Rattle.st_hop.proofs.Tables.{restored_lawful}
 use Rattle.st_hop_books.specs.declared.balance.Amounts.{Amounts}
-use Rattle.st_hop_books.specs.declared.balance.Side.{Side}
-use Rattle.st_hop_books.specs.declared.balance.Side.TheVariants.{Claims, Dues}
+use Rattle.st_links.specs.declared.side.BalanceSide.{BalanceSide}
+use Rattle.st_links.specs.declared.side.BalanceSide.TheVariants.{Claims, Dues}
 use Rattle.st_hop_books.specs.declared.balance.Kind.{Kind}
 use Rattle.st_hop_books.specs.Payments.{less, more, changed, on_side, paid_off, paying}
 use Rattle.st_hop_books.specs.Sums.{nothing, amounts_at}
@@ -47,24 +47,24 @@ left_dues : (h k : Hop) (bag : List Open) (before : Amounts) (o : Option ℕ) �
 left_dues h k bag before None g is = omega arith
 left_dues h k bag before (Some a) g is = let d = g.dues a in let s = is a refl in omega (arith, d, s)
 
-paid_claims : (owed : Owed) (to name : List ℕ) (side : Side) (amount : ℕ) (b : Bool) → bytes_eq to name ≡ b → amount ≤ on_side side (owed to)
+paid_claims : (owed : Owed) (to name : List ℕ) (side : BalanceSide) (amount : ℕ) (b : Bool) → bytes_eq to name ≡ b → amount ≤ on_side side (owed to)
     → (if b then less side amount (owed name) else owed name).claims + (if b then amount_if Claims side amount else 0) ≡ (owed name).claims
 paid_claims owed to name side amount false same fits = omega arith
 paid_claims owed to name Claims amount true same fits = let e = ap (λ n. (owed n).claims) ((bytes_eq-Decides to name).0 same) in omega (arith, fits, e)
 paid_claims owed to name Dues amount true same fits = omega arith
 
-paid_dues : (owed : Owed) (to name : List ℕ) (side : Side) (amount : ℕ) (b : Bool) → bytes_eq to name ≡ b → amount ≤ on_side side (owed to)
+paid_dues : (owed : Owed) (to name : List ℕ) (side : BalanceSide) (amount : ℕ) (b : Bool) → bytes_eq to name ≡ b → amount ≤ on_side side (owed to)
     → (if b then less side amount (owed name) else owed name).dues + (if b then amount_if Dues side amount else 0) ≡ (owed name).dues
 paid_dues owed to name side amount false same fits = omega arith
 paid_dues owed to name Claims amount true same fits = omega arith
 paid_dues owed to name Dues amount true same fits = let e = ap (λ n. (owed n).dues) ((bytes_eq-Decides to name).0 same) in omega (arith, fits, e)
 
-added_claims : (owed : Owed) (to name : List ℕ) (side : Side) (amount : ℕ) (b : Bool) → (if b then more side amount (owed name) else owed name).claims ≡ (owed name).claims + (if b then amount_if Claims side amount else 0)
+added_claims : (owed : Owed) (to name : List ℕ) (side : BalanceSide) (amount : ℕ) (b : Bool) → (if b then more side amount (owed name) else owed name).claims ≡ (owed name).claims + (if b then amount_if Claims side amount else 0)
 added_claims owed to name side amount false = omega arith
 added_claims owed to name Claims amount true = refl
 added_claims owed to name Dues amount true = omega arith
 
-added_dues : (owed : Owed) (to name : List ℕ) (side : Side) (amount : ℕ) (b : Bool) → (if b then more side amount (owed name) else owed name).dues ≡ (owed name).dues + (if b then amount_if Dues side amount else 0)
+added_dues : (owed : Owed) (to name : List ℕ) (side : BalanceSide) (amount : ℕ) (b : Bool) → (if b then more side amount (owed name) else owed name).dues ≡ (owed name).dues + (if b then amount_if Dues side amount else 0)
 added_dues owed to name side amount false = omega arith
 added_dues owed to name Claims amount true = omega arith
 added_dues owed to name Dues amount true = refl
@@ -135,7 +135,7 @@ paid_one true a c d same = same refl
 paid_one false a c d same = refl
 
 -- an entry in the books is one by name
-pub entered_named : (names : Names) (all : List Amounts) (kind : Kind) (at : ℕ) (to name : List ℕ) (side : Side) (amount moment : ℕ) → AreDistinct names → length names ≡ length all → slice_get names at ≡ Some to
+pub entered_named : (names : Names) (all : List Amounts) (kind : Kind) (at : ℕ) (to name : List ℕ) (side : BalanceSide) (amount moment : ℕ) → AreDistinct names → length names ≡ length all → slice_get names at ≡ Some to
     → amounts_of names (paid_off all (paying kind at side amount moment)) name ≡ after_entry kind (amounts_of names all) to side amount name
 entered_named names all kind at to name side amount moment apart same here =
     set_named names all at to name (changed kind side amount (amounts_at all at)) apart same here

@@ -5,7 +5,7 @@ use Rattle.sqlite_trees.specs.View.{IsClean}
 use Rattle.sqlite_trees.specs.declared.error.StoreError.{StoreError}
 use Rattle.sqlite_trees.specs.declared.store.Store.{Ghosts}
 use Rattle.st_hop_books.specs.declared.balance.Entry.{Entry}
-use Rattle.st_hop_books.specs.declared.balance.Side.{Side}
+use Rattle.st_links.specs.declared.side.BalanceSide.{BalanceSide}
 use Rattle.st_hop_books.specs.declared.error.BooksError.{BooksError}
 use Rattle.st_hop_books.specs.Errors.{told}
 use Rattle.st_hop_books.specs.Payments.{Finds, IsCovered, entry_text, name_at, paying}
@@ -27,13 +27,13 @@ module _ {S : Type 0} (g : Ghosts S) (old new : Kept S) where
   refused_unsettled read after same refused = (refused.same.0 ∙ same.same.0, refused.same.1 ∙ same.same.1, refused.same.2 ∙ same.same.2)
 
   -- it was there before
-  pub once_before : (name : List ℕ) (side : Side) (entry found : Entry) (reference : List ℕ) (at : ℕ) → found ≡ entry → slice_get old.names at ≡ Some name
+  pub once_before : (name : List ℕ) (side : BalanceSide) (entry found : Entry) (reference : List ℕ) (at : ℕ) → found ≡ entry → slice_get old.names at ≡ Some name
       → (IsClean (g.view new.store) → Finds (trail_in (g.view old.store)).paid (name_at old.names at) side reference (Some found)) → Rereads g old new
       → WasThere g old name side entry reference new
   once_before name side entry found reference at is named there same =
       subst (λ (e : Entry). WasThere g old name side e reference new) is (record { at = at; named = named; found = there; same = same })
 
-  module _ (name : List ℕ) (side : Side) (entry : Entry) (moment : ℕ) (reference : List ℕ) where
+  module _ (name : List ℕ) (side : BalanceSide) (entry : Entry) (moment : ℕ) (reference : List ℕ) where
     -- it was not, and is now
     pub once_now : (at : ℕ) (read : Kept S) → slice_get old.names at ≡ Some name
         → (IsClean (g.view read.store) → Finds (trail_in (g.view old.store)).paid (name_at old.names at) side reference None) → Rereads g old read

@@ -7,9 +7,9 @@ use Rattle.st_hop.specs.Hop.{held_for, due_for}
 use Rattle.st_links.specs.declared.booking.Proof.{Proof}
 use Rattle.st_hop_books.specs.declared.balance.Amounts.{Amounts}
 use Rattle.st_hop_books.specs.Sums.{booked, nothing}
-use Rattle.st_hop_books.specs.declared.balance.Side.TheVariants.{Claims, Dues}
+use Rattle.st_links.specs.declared.side.BalanceSide.TheVariants.{Claims, Dues}
 use Rattle.st_hop_books.specs.declared.balance.Kind.{Kind}
-use Rattle.st_hop_books.specs.declared.balance.Side.{Side}
+use Rattle.st_links.specs.declared.side.BalanceSide.{BalanceSide}
 use Rattle.st_hop_books.specs.Payments.{paid_off, paying}
 use Rattle.st_hop_books.specs.Table.{AreDistinct}
 use Rattle.ilpstream_ledger.specs.Lives.{AllFit, Chapter, adjusted, after_entry, booking_at, earned, gained, history, line_of, none, paid}
@@ -47,7 +47,7 @@ DuesAreEarnedOrAdjusted =
 -- a payment or an adjustment at the place of a name is one of this name
 abbrev pub EntriesAreByName : Type 0
 EntriesAreByName =
-    (names : Names) (all : List Amounts) (kind : Kind) (at : ℕ) (to name : List ℕ) (side : Side) (amount moment : ℕ)
+    (names : Names) (all : List Amounts) (kind : Kind) (at : ℕ) (to name : List ℕ) (side : BalanceSide) (amount moment : ℕ)
     → AreDistinct names
     → length names ≡ length all
     → slice_get names at ≡ Some to

@@ -12,8 +12,8 @@ use Rattle.st_hop.specs.Table.{is_table, new_hop}
 use Rattle.st_links.specs.declared.booking.Booking.{Booking}
 use Rattle.st_links.specs.declared.booking.Proof.{Proof}
 use Rattle.st_hop_books.specs.declared.balance.Amounts.{Amounts}
-use Rattle.st_hop_books.specs.declared.balance.Side.{Side}
-use Rattle.st_hop_books.specs.declared.balance.Side.TheVariants.{Claims, Dues}
+use Rattle.st_links.specs.declared.side.BalanceSide.{BalanceSide}
+use Rattle.st_links.specs.declared.side.BalanceSide.TheVariants.{Claims, Dues}
 use Rattle.st_hop_books.specs.declared.balance.Kind.{Kind}
 use Rattle.st_hop_books.specs.declared.balance.Kind.TheVariants.{Paid, Adjusted}
 use Rattle.st_hop_books.specs.Payments.{changed, on_side}
@@ -35,8 +35,8 @@ pub record Life : Type 0 where
 
 pub data Chapter : Type 0 where
   Lives : Life → Chapter
-  Pays : (name : List ℕ) (side : Side) (amount : ℕ) → Chapter
-  Adjusts : (name : List ℕ) (side : Side) (amount : ℕ) → Chapter
+  Pays : (name : List ℕ) (side : BalanceSide) (amount : ℕ) → Chapter
+  Adjusts : (name : List ℕ) (side : BalanceSide) (amount : ℕ) → Chapter
 
 abbrev pub claims_by : Owed → Names → List ℕ
 claims_by owed names = map (λ name. (owed name).claims) names
@@ -66,7 +66,7 @@ abbrev pub after_life : Owed → Life → Owed
 after_life owed l name = left_at (run (hop_of owed l) l.acts) (line_of l.names name) (owed name)
 
 -- a payment is taken off the side of one name, and an adjustment is added
-abbrev pub after_entry : Kind → Owed → (to : List ℕ) → Side → (amount : ℕ) → Owed
+abbrev pub after_entry : Kind → Owed → (to : List ℕ) → BalanceSide → (amount : ℕ) → Owed
 after_entry kind owed to side amount name = if bytes_eq to name then changed kind side amount (owed name) else owed name
 
 abbrev pub after : Owed → Chapter → Owed
@@ -116,29 +116,29 @@ abbrev pub earned : (by : ℕ → Open → ℕ) → Owed → (name : List ℕ) �
 earned by owed name [] = 0
 earned by owed name (c ∷ cs) = earned_in by owed name c + earned by (after owed c) name cs
 
-abbrev pub amount_if : Side → Side → (amount : ℕ) → ℕ
+abbrev pub amount_if : BalanceSide → BalanceSide → (amount : ℕ) → ℕ
 amount_if Claims Claims amount = amount
 amount_if Claims Dues amount = 0
 amount_if Dues Claims amount = 0
 amount_if Dues Dues amount = amount
 
-abbrev pub paid_in : Side → (name : List ℕ) → Chapter → ℕ
+abbrev pub paid_in : BalanceSide → (name : List ℕ) → Chapter → ℕ
 paid_in side name (Lives l) = 0
 paid_in side name (Pays to on amount) = if bytes_eq to name then amount_if side on amount else 0
 paid_in side name (Adjusts to on amount) = 0
 
 -- what was paid on a side of the account of a name
-abbrev pub paid : Side → (name : List ℕ) → List Chapter → ℕ
+abbrev pub paid : BalanceSide → (name : List ℕ) → List Chapter → ℕ
 paid side name [] = 0
 paid side name (c ∷ cs) = paid_in side name c + paid side name cs
 
-abbrev pub adjusted_in : Side → (name : List ℕ) → Chapter → ℕ
+abbrev pub adjusted_in : BalanceSide → (name : List ℕ) → Chapter → ℕ
 adjusted_in side name (Lives l) = 0
 adjusted_in side name (Pays to on amount) = 0
 adjusted_in side name (Adjusts to on amount) = if bytes_eq to name then amount_if side on amount else 0
 
 -- what was added to a side of the account of a name
-abbrev pub adjusted : Side → (name : List ℕ) → List Chapter → ℕ
+abbrev pub adjusted : BalanceSide → (name : List ℕ) → List Chapter → ℕ
 adjusted side name [] = 0
 adjusted side name (c ∷ cs) = adjusted_in side name c + adjusted side name cs
 

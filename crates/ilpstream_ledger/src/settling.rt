@@ -8,7 +8,8 @@ ghost use Rattle.ilpstream_ledger.specs.Settling.{IsOnce, IsSettled, IsUnsettled
 use crate::error::LedgerError;
 use crate::owed;
 use sqlite_trees::store::Alter;
-use st_hop_books::{Amounts, Books, BooksError, Entry, Kind, Payment, Side};
+use st_hop_books::{Amounts, Books, BooksError, Entry, Kind, Payment};
+use st_links::BalanceSide;
 
 /// What was entered under a reference, now or before.
 #[derive(Clone, Copy, Debug, PartialEq, Eq)]
@@ -28,7 +29,7 @@ pub struct Once {
 pub fn settle<S: Alter>(
     books: &mut Books<S>,
     name: &str,
-    side: Side,
+    side: BalanceSide,
     amount: u64,
     moment: u64,
 ) -> Result<Amounts, LedgerError>
@@ -69,7 +70,7 @@ fn is_same(one: Entry, other: Entry) -> bool
 pub fn settle_once<S: Alter>(
     books: &mut Books<S>,
     name: &str,
-    side: Side,
+    side: BalanceSide,
     entry: Entry,
     moment: u64,
     reference: &str,

@@ -20,8 +20,8 @@ use Rattle.ilpstream_log.specs.declared.event.Unreached.{Unreached}
 use Rattle.ilpstream_log.specs.declared.event.Unreached.TheVariants as unreached
 use Rattle.ilpstream_log.specs.declared.event.Lost.{Lost}
 use Rattle.ilpstream_log.specs.declared.event.Lost.TheVariants as lost
-use Rattle.ilpstream_log.specs.declared.event.Blocked.{Blocked}
-use Rattle.ilpstream_log.specs.declared.event.Blocked.TheVariants as blocked
+use Rattle.st_streams.specs.declared.blocked.Blocked.{Blocked}
+use Rattle.st_streams.specs.declared.blocked.Blocked.TheVariants as blocked
 use Rattle.ilpstream_log.specs.declared.event.Heard.{Heard}
 use Rattle.ilpstream_log.specs.declared.event.Heard.TheVariants as heard
 use Rattle.ilpstream_log.specs.declared.event.Kind.{Kind}
@@ -232,10 +232,10 @@ start_ends (start.Connector listen own workers None) =
     (number (codes " workers=") workers (codes " requests=endless\n") refl (more (codes " requests=endless") (10 ∷ []) (record { is = refl }) ends)))
 
 waits_ends : (b : Blocked) → EndsByItsOneNewline (waits_text b)
-waits_ends (blocked.ConnectionData limit) = number (codes "waits at=connection-data limit=") limit (10 ∷ []) refl ends
-waits_ends (blocked.StreamData stream limit) =
+waits_ends (blocked.Connection limit) = number (codes "waits at=connection-data limit=") limit (10 ∷ []) refl ends
+waits_ends (blocked.Data stream limit) =
     number (codes "waits at=stream-data stream=") stream _ refl (number (codes " limit=") limit (10 ∷ []) refl ends)
-waits_ends (blocked.StreamMoney stream receive_max total) =
+waits_ends (blocked.Money stream receive_max total) =
     number (codes "waits at=stream-money stream=") stream _ refl (number (codes " receive_max=") receive_max _ refl
     (number (codes " total=") total (10 ∷ []) refl ends))
 

@@ -13,13 +13,13 @@ use Rattle.ilpstream_log.specs.declared.event.Unreached.{Unreached}
 use Rattle.ilpstream_log.specs.declared.event.Unreached.TheVariants as unreached
 use Rattle.ilpstream_log.specs.declared.event.Lost.{Lost}
 use Rattle.ilpstream_log.specs.declared.event.Lost.TheVariants as lost
-use Rattle.ilpstream_log.specs.declared.event.Blocked.{Blocked}
-use Rattle.ilpstream_log.specs.declared.event.Blocked.TheVariants as blocked
+use Rattle.st_streams.specs.declared.blocked.Blocked.{Blocked}
+use Rattle.st_streams.specs.declared.blocked.Blocked.TheVariants as blocked
 use Rattle.ilpstream_log.specs.declared.event.Heard.{Heard}
 use Rattle.ilpstream_log.specs.declared.event.Heard.TheVariants as heard
 use Rattle.ilpstream_log.specs.declared.event.Kind.{Kind}
 use Rattle.ilpstream_log.specs.declared.event.Kind.TheVariants as kind
-use Rattle.ilpstream_log.specs.declared.event.EndCounts.{EndCounts}
+use Rattle.st_streams.specs.declared.totals.EndTotals.{EndTotals}
 use Rattle.ilpstream_log.specs.declared.event.AccountCounts.{AccountCounts}
 
 -- a text, and then another one, which is the rest of a line
@@ -181,10 +181,10 @@ abbrev pub limit_text : (n most : ℕ) → List ℕ
 limit_text n most = codes "limit neighbour=" ⧺ decimal n ⧺ codes " most=" ⧺ decimal most ⧺ 10 ∷ []
 
 abbrev pub waits_text : Blocked → List ℕ
-waits_text (blocked.ConnectionData limit) = codes "waits at=connection-data limit=" ⧺ decimal limit ⧺ 10 ∷ []
-waits_text (blocked.StreamData stream limit) =
+waits_text (blocked.Connection limit) = codes "waits at=connection-data limit=" ⧺ decimal limit ⧺ 10 ∷ []
+waits_text (blocked.Data stream limit) =
     codes "waits at=stream-data stream=" ⧺ decimal stream ⧺ codes " limit=" ⧺ decimal limit ⧺ 10 ∷ []
-waits_text (blocked.StreamMoney stream receive_max total) =
+waits_text (blocked.Money stream receive_max total) =
     codes "waits at=stream-money stream=" ⧺ decimal stream ⧺ codes " receive_max=" ⧺ decimal receive_max
     ⧺ codes " total=" ⧺ decimal total ⧺ 10 ∷ []
 
@@ -206,7 +206,7 @@ closed_text stream = codes "closed stream=" ⧺ decimal stream ⧺ 10 ∷ []
 abbrev pub aborted_text : (stream code : ℕ) → List ℕ
 aborted_text stream code = codes "closed stream=" ⧺ decimal stream ⧺ codes " code=" ⧺ decimal code ⧺ 10 ∷ []
 
-abbrev pub end_text : EndCounts → List ℕ
+abbrev pub end_text : EndTotals → List ℕ
 end_text t = codes "totals accepted=" ⧺ decimal t.accepted ⧺ codes " delivered=" ⧺ decimal t.delivered
     ⧺ codes " credited=" ⧺ decimal t.credited ⧺ codes " paid=" ⧺ decimal t.paid ⧺ 10 ∷ []
 

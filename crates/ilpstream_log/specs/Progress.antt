@@ -4,8 +4,8 @@ use Rattle.ilpstream_log.specs.Quoting.{all_escaped}
 use Rattle.ilpstream_log.specs.Lines.{◌⧺◌, unreached_word}
 use Rattle.ilpstream_log.specs.declared.event.Cause.{Cause}
 use Rattle.ilpstream_log.specs.declared.event.Cause.TheVariants as cause
-use Rattle.ilpstream_log.specs.declared.event.Blocked.{Blocked}
-use Rattle.ilpstream_log.specs.declared.event.Blocked.TheVariants as blocked
+use Rattle.st_streams.specs.declared.blocked.Blocked.{Blocked}
+use Rattle.st_streams.specs.declared.blocked.Blocked.TheVariants as blocked
 use Rattle.ilpstream_log.specs.declared.progress.Brief.{Brief}
 use Rattle.ilpstream_log.specs.declared.progress.Brief.TheVariants as brief
 use Rattle.ilpstream_log.specs.declared.progress.Progress.{Progress}
@@ -54,9 +54,9 @@ left_text (Some seconds) = codes ", " ⧺ time_text seconds ⧺ codes " left"
 -- a limit of the peer
 abbrev pub waits_text : Option Blocked → List ℕ
 waits_text None = []
-waits_text (Some (blocked.ConnectionData limit)) = codes " (waits at the limit of " ⧺ decimal limit ⧺ codes " bytes)"
-waits_text (Some (blocked.StreamData stream limit)) = codes " (waits at the limit of " ⧺ decimal limit ⧺ codes " bytes)"
-waits_text (Some (blocked.StreamMoney stream most total)) = codes " (waits at the limit of " ⧺ decimal most ⧺ codes " units)"
+waits_text (Some (blocked.Connection limit)) = codes " (waits at the limit of " ⧺ decimal limit ⧺ codes " bytes)"
+waits_text (Some (blocked.Data stream limit)) = codes " (waits at the limit of " ⧺ decimal limit ⧺ codes " bytes)"
+waits_text (Some (blocked.Money stream most total)) = codes " (waits at the limit of " ⧺ decimal most ⧺ codes " units)"
 
 abbrev pub failure_text : Option Brief → List ℕ
 failure_text None = []

@@ -3,6 +3,8 @@
 ghost use Rattle.std.specs.Prelude.{◌≡◌, ◌<◌};
 ghost use Rattle.ilpstream_log.specs.Lines as spec;
 
+use st_streams::{Blocked, EndTotals};
+
 /// One event of a run. The neighbour that it is about is given separately: the number of an account at a connector, and 0 at
 /// `send` and `receive`. No event has a secret, a token or a payload.
 #[derive(Clone, Copy)]
@@ -66,7 +68,7 @@ pub enum Event<'a> {
         code: Option<u64>,
     },
     /// The totals of an end so far.
-    End(EndCounts),
+    End(EndTotals),
     /// The totals of the neighbour's account so far.
     Account(AccountCounts),
     /// How many exchanges with the neighbour brought a Reject of one code so far.
@@ -184,32 +186,6 @@ pub enum Unreached {
     Timeout,
 }
 
-/// A limit of the peer at which an end waits: what it reports in a Blocked frame (RFC 0029, section 5.3).
-#[derive(Clone, Copy, Debug, PartialEq, Eq)]
-pub enum Blocked {
-    /// The limit on the bytes of all streams together.
-    ConnectionData {
-        /// The most bytes.
-        limit: u64,
-    },
-    /// The limit on the bytes of a stream.
-    StreamData {
-        /// The number of the stream.
-        stream: u64,
-        /// The most bytes.
-        limit: u64,
-    },
-    /// The receive max of a stream.
-    StreamMoney {
-        /// The number of the stream.
-        stream: u64,
-        /// The most units that the peer accepts on it.
-        receive_max: u64,
-        /// The units that were paid on it.
-        total: u64,
-    },
-}
-
 /// What became of a line by which a command was asked something.
 #[derive(Clone, Copy)]
 pub enum Heard<'a> {
@@ -228,19 +204,6 @@ pub enum Lost {
     Status(u16),
     /// It ended, failed or was silent before its request was whole, or the response could not be written.
     Cut,
-}
-
-/// The totals of an end.
-#[derive(Clone, Copy, Debug, PartialEq, Eq)]
-pub struct EndCounts {
-    /// Bytes that were accepted to be sent.
-    pub accepted: u64,
-    /// Bytes of the peer that were read.
-    pub delivered: u64,
-    /// Units that arrived.
-    pub credited: u64,
-    /// Units that were paid.
-    pub paid: u64,
 }
 
 /// The totals of an account of a connector.

@@ -19,11 +19,10 @@ mod starts;
 mod text;
 mod waiting;
 
-pub use event::{
-    AccountCounts, Blocked, Cause, EndCounts, Event, Heard, Kind, Lost, Start, Unreached,
-};
+pub use event::{AccountCounts, Cause, Event, Heard, Kind, Lost, Start, Unreached};
 pub use journal::Journal;
 pub use laws::{events_are_counted, line_has_one_newline, ten_a_second, texts_of_peers_are_short};
 pub use pace::{LINES_A_SECOND, Left, Pace, Verdict};
 pub use progress::{Brief, Progress, shown};
+pub use st_streams::{Blocked, EndTotals};
 pub use text::line;

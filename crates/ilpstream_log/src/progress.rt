@@ -4,8 +4,9 @@ ghost use Rattle.std.specs.Prelude.{◌≡◌, IfOk, Some, string_bytes};
 ghost use Rattle.ilpstream_log.specs.Progress as spec;
 ghost use Rattle.ilpstream_log.specs.declared.progress.Brief.TheVariants as brief;
 
-use crate::event::{Blocked, Cause, Unreached};
+use crate::event::{Cause, Unreached};
 use crate::quote::code_text;
+use st_streams::Blocked;
 use std::alloc::{AllocError, Global};
 
 /// Why an exchange brought no Fulfill, without the texts of a peer.
@@ -137,13 +138,16 @@ fn waits_text(alloc: Global, waits: Option<Blocked>) -> Result<String, AllocErro
 {
     let text = match waits {
         None => String::new(alloc),
-        Some(Blocked::ConnectionData { limit }) => {
+        Some(Blocked::Connection { max_offset: limit }) => {
             format!(in alloc; " (waits at the limit of {limit} bytes)")?
         }
-        Some(Blocked::StreamData { limit, .. }) => {
-            format!(in alloc; " (waits at the limit of {limit} bytes)")?
-        }
-        Some(Blocked::StreamMoney { receive_max, .. }) => {
+        Some(
+            Blocked::Data {
+                max_offset: limit,
+                ..
+            },
+        ) => { format!(in alloc; " (waits at the limit of {limit} bytes)")? }
+        Some(Blocked::Money { receive_max, .. }) => {
             format!(in alloc; " (waits at the limit of {receive_max} units)")?
         }
     };

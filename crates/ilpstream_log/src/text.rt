@@ -4,10 +4,11 @@ ghost use Rattle.std.specs.Prelude.{◌≡◌, ◌++◌, IfOk, string_bytes};
 ghost use Rattle.ilpstream_log.specs.Lines as spec;
 
 use crate::date::date_text;
-use crate::event::{AccountCounts, Blocked, Cause, EndCounts, Event, Heard, Kind, Lost};
+use crate::event::{AccountCounts, Cause, Event, Heard, Kind, Lost};
 use crate::quote::{bare, code_text, quoted, quoted_short};
 use crate::starts::start_text;
 use st_ilp::Moment;
+use st_streams::{Blocked, EndTotals};
 use std::alloc::{AllocError, Global};
 
 fn listening_text(alloc: Global, address: &str) -> Result<String, AllocError>
@@ -149,13 +150,14 @@ fn waits_text(alloc: Global, blocked: Blocked) -> Result<String, AllocError>
     ensures { IfOk result (λ text. string_bytes text ≡ spec.waits_text blocked) }
 {
     let text = match blocked {
-        Blocked::ConnectionData { limit } => {
+        Blocked::Connection { max_offset: limit } => {
             format!(in alloc; "waits at=connection-data limit={limit}\n")?
         }
-        Blocked::StreamData { stream, limit } => {
-            format!(in alloc; "waits at=stream-data stream={stream} limit={limit}\n")?
-        }
-        Blocked::StreamMoney {
+        Blocked::Data {
+            stream,
+            max_offset: limit,
+        } => { format!(in alloc; "waits at=stream-data stream={stream} limit={limit}\n")? }
+        Blocked::Money {
             stream,
             receive_max,
             total,
@@ -212,10 +214,10 @@ fn aborted_text(alloc: Global, stream: u64, code: u64) -> Result<String, AllocEr
     Ok(text)
 }
 
-fn end_text(alloc: Global, totals: EndCounts) -> Result<String, AllocError>
+fn end_text(alloc: Global, totals: EndTotals) -> Result<String, AllocError>
     ensures { IfOk result (λ text. string_bytes text ≡ spec.end_text totals) }
 {
-    let EndCounts {
+    let EndTotals {
         accepted,
         delivered,
         credited,

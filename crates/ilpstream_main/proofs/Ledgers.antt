@@ -11,7 +11,7 @@ use Rattle.st_devices.specs.declared.counted.Counting.{Counting}
 use Rattle.st_devices.specs.declared.tally.Tally.{Tally}
 use Rattle.st_hop_books.specs.declared.balance.Amounts.{Amounts}
 use Rattle.st_hop_books.specs.declared.balance.Entry.{Entry}
-use Rattle.st_hop_books.specs.declared.balance.Side.{Side}
+use Rattle.st_links.specs.declared.side.BalanceSide.{BalanceSide}
 use Rattle.st_hop_books.specs.Standing.{Kept}
 use Rattle.ilpstream_frames.specs.Endings.{most_turns, writer_faults}
 use Rattle.ilpstream_frames.specs.declared.error.Fault.{Fault}
@@ -57,12 +57,12 @@ fails_to_write fault.Output w v left input memory faults turns none = faults
 fails_to_write fault.Turns w v left input memory faults turns none = turns.calls ∙ ap (λ (n : ℕ). count_after (most_turns - n) w.calls) (none refl)
 
 -- the line of an account of which a payment was booked
-pub printed_alone : {S : Type 0} (g : Ghosts S) (name : List ℕ) (side : Side) (amount : ℕ) (old new : Kept S) (moment : ℕ) (left : Amounts) (text : List ℕ) → IsSettled g old name side amount moment new
+pub printed_alone : {S : Type 0} (g : Ghosts S) (name : List ℕ) (side : BalanceSide) (amount : ℕ) (old new : Kept S) (moment : ℕ) (left : Amounts) (text : List ℕ) → IsSettled g old name side amount moment new
     → left ≡ amounts_of new.names new.amounts name → text ≡ account_text name left → IsPrintedAlone g name side amount old new text
 printed_alone g name side amount old new moment left text settled told line = ((moment, settled), line ∙ ap (account_text name) told)
 
 -- and of one that was booked under a reference
-pub printed_once : {S : Type 0} (g : Ghosts S) (repeated : Bool) (name : List ℕ) (side : Side) (entry : Entry) (reference : List ℕ) (old new : Kept S) (moment : ℕ) (left : Amounts) (text : List ℕ)
+pub printed_once : {S : Type 0} (g : Ghosts S) (repeated : Bool) (name : List ℕ) (side : BalanceSide) (entry : Entry) (reference : List ℕ) (old new : Kept S) (moment : ℕ) (left : Amounts) (text : List ℕ)
     → IsOnce g repeated old name side entry moment reference new → left ≡ amounts_of new.names new.amounts name → text ≡ once_text repeated name left → IsPrintedOnce g name side entry reference old new text
 printed_once g repeated name side entry reference old new moment left text once told line = (repeated, (moment, once), line ∙ ap (once_text repeated name) told)
 

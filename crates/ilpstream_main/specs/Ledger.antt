@@ -10,8 +10,7 @@ use Rattle.st_hop_books.specs.declared.balance.Amounts.{Amounts}
 use Rattle.st_hop_books.specs.declared.balance.Entry.{Entry}
 use Rattle.st_hop_books.specs.declared.balance.Kind.{Kind}
 use Rattle.st_hop_books.specs.declared.balance.Kind.TheVariants as kinds
-use Rattle.st_hop_books.specs.declared.balance.Side.{Side}
-use Rattle.st_hop_books.specs.declared.balance.Side.TheVariants as books
+use Rattle.st_links.specs.declared.side.BalanceSide.{BalanceSide}
 use Rattle.st_hop_books.specs.Standing.{Kept}
 use Rattle.ilpstream_frames.specs.declared.error.Fault.{Fault}
 use Rattle.ilpstream_frames.specs.declared.error.Fault.TheVariants as fault
@@ -19,8 +18,6 @@ use Rattle.ilpstream_frames.specs.Endings.{most_turns}
 use Rattle.ilpstream_settings.specs.declared.ledger.Kind.{Kind as Asked}
 use Rattle.ilpstream_settings.specs.declared.ledger.Kind.TheVariants as asked
 use Rattle.ilpstream_settings.specs.declared.ledger.Payment.{Payment}
-use Rattle.ilpstream_settings.specs.declared.ledger.Side.{Side as Paid}
-use Rattle.ilpstream_settings.specs.declared.ledger.Side.TheVariants as paid
 use Rattle.ilpstream_ledger.specs.Names.{amounts_of}
 use Rattle.ilpstream_ledger.specs.Placing.{IsLate}
 use Rattle.ilpstream_ledger.specs.Settling.{IsOnce, IsSettled}
@@ -28,18 +25,13 @@ use Rattle.ilpstream_ledger.specs.Texts.{account_text, ledger_text, repeated_tex
 use Rattle.ilpstream_main.specs.declared.error.RunError.{RunError}
 use Rattle.ilpstream_main.specs.declared.error.RunError.TheVariants as run
 
--- the side of the books that a payment is taken off
-abbrev pub side_of : Paid → Side
-side_of paid.Claims = books.Claims
-side_of paid.Dues = books.Dues
-
 -- whether the books take an amount off or add it
 abbrev pub kind_of : Asked → Kind
 kind_of asked.Settle = kinds.Paid
 kind_of asked.Adjust = kinds.Adjusted
 
 -- the payment was booked, and the text is its account's line after that
-abbrev pub IsPrintedAlone : {S : Type 0} → Ghosts S → (name : List ℕ) → Side → (amount : ℕ) → (old new : Kept S) → (text : List ℕ) → Type 0
+abbrev pub IsPrintedAlone : {S : Type 0} → Ghosts S → (name : List ℕ) → BalanceSide → (amount : ℕ) → (old new : Kept S) → (text : List ℕ) → Type 0
 IsPrintedAlone g name side amount old new text =
     ((moment : ℕ) × IsSettled g old name side amount moment new) × (text ≡ account_text name (amounts_of new.names new.amounts name))
 
@@ -49,15 +41,15 @@ once_text true = repeated_text
 once_text false = account_text
 
 -- it was booked under its reference, now or before, and the text says which
-abbrev pub IsPrintedOnce : {S : Type 0} → Ghosts S → (name : List ℕ) → Side → Entry → (reference : List ℕ) → (old new : Kept S) → (text : List ℕ) → Type 0
+abbrev pub IsPrintedOnce : {S : Type 0} → Ghosts S → (name : List ℕ) → BalanceSide → Entry → (reference : List ℕ) → (old new : Kept S) → (text : List ℕ) → Type 0
 IsPrintedOnce g name side entry reference old new text =
     (repeated : Bool) × ((moment : ℕ) × IsOnce g repeated old name side entry moment reference new)
     × (text ≡ once_text repeated name (amounts_of new.names new.amounts name))
 
 abbrev pub IsPrintedAs : {S : Type 0} → Ghosts S → Payment → (reference : Option (List ℕ)) → (old new : Kept S) → List ℕ → Type 0
-IsPrintedAs g p None old new text = IsPrintedAlone g p.name.now (side_of p.side) p.amount old new text
+IsPrintedAs g p None old new text = IsPrintedAlone g p.name.now p.side p.amount old new text
 IsPrintedAs g p (Some reference) old new text =
-    IsPrintedOnce g p.name.now (side_of p.side) (record { kind = kind_of p.kind; amount = p.amount }) reference old new text
+    IsPrintedOnce g p.name.now p.side (record { kind = kind_of p.kind; amount = p.amount }) reference old new text
 
 -- the text of books, old and new: all accounts and the starts of books that stay; or the line of the account of an entry
 abbrev pub IsPrinted : {S : Type 0} → Ghosts S → Option Payment → (old new : Kept S) → List ℕ → Type 0

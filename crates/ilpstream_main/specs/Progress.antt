@@ -3,7 +3,7 @@ use Rattle.std.specs.Prelude.{ℕ, ◌-◌, nat_le, nat_lt, Bool, if◌then◌el
 use Rattle.st_end.specs.Totals.{Totals}
 use Rattle.ilpstream_log.specs.declared.progress.Brief.{Brief}
 use Rattle.ilpstream_log.specs.declared.progress.Progress.{Progress}
-use Rattle.ilpstream_log.specs.declared.event.Blocked.{Blocked}
+use Rattle.st_streams.specs.declared.blocked.Blocked.{Blocked}
 use Rattle.ilpstream_main.specs.declared.progress.Mark.{Mark}
 use Rattle.ilpstream_main.specs.declared.progress.Span.{Span}
 use Rattle.ilpstream_main.specs.declared.progress.Side.{Side}

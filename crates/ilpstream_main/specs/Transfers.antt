@@ -16,7 +16,7 @@ use Rattle.ilpstream_ends.specs.Keeping.{TellsTotals, file_stream}
 use Rattle.ilpstream_ends.specs.Outcomes.{ComesTo, no_totals}
 use Rattle.ilpstream_serving.specs.declared.error.TransferError.{TransferError}
 use Rattle.ilpstream_serving.specs.declared.error.TransferError.TheVariants as transfer
-use Rattle.ilpstream_serving.specs.declared.neighbour.Neighbour.{Neighbour}
+use Rattle.st_http.specs.declared.neighbour.Neighbour.{Neighbour}
 use Rattle.ilpstream_serving.specs.declared.terms.ReceiveTerms.{ReceiveTerms}
 use Rattle.ilpstream_serving.specs.declared.terms.SendTerms.{SendTerms}
 use Rattle.ilpstream_frames.specs.Endings.{most_turns}

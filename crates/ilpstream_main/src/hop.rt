@@ -7,7 +7,7 @@ ghost use Rattle.ilpstream_ledger.specs.Placed.{ArePlaces};
 ghost use Rattle.ilpstream_settings.specs.Table.{names_of};
 ghost use Rattle.ilpstream_main.specs.Table.{WhyNoHop, is_hop};
 ghost use Rattle.ilpstream_main.specs.Restored.{GoesOnFromBooks, IsRestored, StandsFor, WhyNotRestored};
-ghost use Rattle.ilpstream_main.specs.Ways.{these, way_in, way_of};
+ghost use Rattle.ilpstream_main.specs.Ways.{these, way_to};
 ghost use Rattle.ilpstream_main.specs.declared.error.RunError.TheVariants.{BadTable, NoHop};
 
 use crate::error::RunError;
@@ -96,27 +96,16 @@ pub(crate) fn restored<S: Alter>(
     }
 }
 
-/// The neighbour to which the Prepares for an account are sent, as its line says. `None` if the line names no neighbour, or
-/// its texts may not be in a request.
-fn way_of<'a>(account: &AccountLine<'a>) -> Option<Neighbour<'a>>
-    ensures { way_in result ≡ way_of account.now }
-{
-    match account.neighbour {
-        Some(neighbour) => Neighbour::new(neighbour.host, neighbour.token),
-        None => None,
-    }
-}
-
-/// The neighbour to which the Prepares for each account are sent.
+/// The neighbour to which the Prepares for each account are sent. `None` if the account's line names no neighbour.
 pub(crate) fn neighbours_of<'a>(
     alloc: Global,
     accounts: &[AccountLine<'a>],
 ) -> Result<Vec<Option<Neighbour<'a>>>, AllocError>
-    ensures { IfOk result (λ neighbours. map way_in neighbours.items ≡ these accounts.now) }
+    ensures { IfOk result (λ neighbours. map way_to neighbours.items ≡ these accounts.now) }
 {
     let mut neighbours = Vec::new(alloc);
     for number in 0..accounts.len() {
-        neighbours.push(way_of(&accounts[number]))?;
+        neighbours.push(accounts[number].neighbour)?;
     }
     Ok(neighbours)
 }

@@ -18,20 +18,10 @@ use ilpstream_serving::RuntimeClock;
 use ilpstream_settings::{LedgerSettings, Payment};
 use sqlite_trees::store::Alter;
 use st_devices::CountWrite;
-use st_hop_books::{Amounts, Books, Entry, Kind, Side};
-use st_links::Clock;
+use st_hop_books::{Amounts, Books, Entry, Kind};
+use st_links::{BalanceSide, Clock};
 use std::alloc::{AllocError, Global};
 use std::io::Write;
-
-/// The side of the books that a payment is taken off.
-fn side_of(side: ilpstream_settings::Side) -> Side
-    ensures { result ≡ specs.side_of side }
-{
-    match side {
-        ilpstream_settings::Side::Claims => Side::Claims,
-        ilpstream_settings::Side::Dues => Side::Dues,
-    }
-}
 
 /// Whether the books take an amount off or add it.
 fn kind_of(kind: ilpstream_settings::Kind) -> Kind
@@ -54,7 +44,7 @@ fn settled<S: Alter, C: std::time::Clock>(
     alloc: Global,
     books: &mut Books<S>,
     name: &str,
-    side: Side,
+    side: BalanceSide,
     amount: u64,
 ) -> Result<Vec<u8>, LedgerError>
     ensures printed { IfOk result (λ text. IsPrintedAlone S.Store name.now side amount books.old books.new text.items) }
@@ -86,7 +76,7 @@ fn settled_once<S: Alter, C: std::time::Clock>(
     alloc: Global,
     books: &mut Books<S>,
     name: &str,
-    side: Side,
+    side: BalanceSide,
     entry: Entry,
     reference: &str,
 ) -> Result<Vec<u8>, LedgerError>
@@ -114,7 +104,6 @@ fn entered<S: Alter, C: std::time::Clock>(
         side,
         reference,
     } = payment;
-    let side = side_of(side);
     match reference {
         None => settled(rt, alloc, books, name, side, amount),
         Some(reference) => {

@@ -10,7 +10,7 @@ use crate::obstacle::{Cause, Obstacle, Step, cause_of, words_of};
 use crate::totals::ended_with;
 use ilpstream_connector::{AccountTotals, Counts};
 use ilpstream_frames::Fault;
-use ilpstream_log::{AccountCounts, EndCounts, Event};
+use ilpstream_log::{AccountCounts, Event};
 use ilpstream_serving::{LogFile, RuntimeClock, log_anew, log_in};
 use ilpstream_settings::{TableFault, WholeFault, table_fault, whole_fault};
 use st_ilp::Moment;
@@ -124,13 +124,7 @@ pub(crate) fn tell<N: Clock>(rt: &N, log: Log<'_>, event: &Event<'_>) {
 
 /// Writes the totals of an end, if there is a log.
 pub(crate) fn tell_end<N: Clock>(rt: &N, log: Log<'_>, totals: &st_end::Totals) {
-    let counts = EndCounts {
-        accepted: totals.accepted,
-        delivered: totals.delivered,
-        credited: totals.credited,
-        paid: totals.paid,
-    };
-    tell(rt, log, &Event::End(counts));
+    tell(rt, log, &Event::End(*totals));
 }
 
 /// Writes the totals of an end so far, and what was left out before, if there is a log.

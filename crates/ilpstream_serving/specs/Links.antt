@@ -15,7 +15,7 @@ use Rattle.ilpstream_serving.specs.declared.cause.Unreached.{Unreached}
 use Rattle.ilpstream_serving.specs.declared.cause.Unreached.TheVariants as unreached
 
 -- the host at which a neighbour is reached, and the token that it knows this side by
-pub record Neighbour : Type 0 where
+pub record HostAndToken : Type 0 where
   pub host : List ℕ
   pub token : List ℕ
 

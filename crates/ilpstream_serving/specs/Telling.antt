@@ -7,13 +7,11 @@ use Rattle.ilpstream_serving.specs.declared.cause.LinkCause.TheVariants as link
 use Rattle.ilpstream_serving.specs.declared.cause.Unreached as links
 use Rattle.ilpstream_serving.specs.declared.cause.Unreached.TheVariants as from
 use Rattle.st_sender.specs.Answering.{f08}
-use Rattle.st_sender.specs.declared.notice.Blocked as sender
-use Rattle.st_sender.specs.declared.notice.Blocked.TheVariants as stops
 use Rattle.st_end.specs.Failed.{Failed, Lost as NoneCame, Unreadable, Unfit, Rejected}
 use Rattle.ilpstream_log.specs.declared.event.Event.{Event}
 use Rattle.ilpstream_log.specs.declared.event.Event.TheVariants as event
-use Rattle.ilpstream_log.specs.declared.event.Blocked.{Blocked}
-use Rattle.ilpstream_log.specs.declared.event.Blocked.TheVariants as limit
+use Rattle.st_streams.specs.declared.blocked.Blocked.{Blocked}
+use Rattle.st_streams.specs.declared.blocked.Blocked.TheVariants as limit
 use Rattle.ilpstream_serving.specs.declared.watching.Reached.{Reached}
 use Rattle.ilpstream_log.specs.declared.event.Cause.{Cause}
 use Rattle.ilpstream_log.specs.declared.event.Cause.TheVariants as cause
@@ -50,10 +48,8 @@ end_told Unfit limit = Some (event.Exchange cause.Unfit)
 end_told (Rejected code by message) limit = if bytes_eq code f08 then Some (event.Limit limit) else None
 
 -- the limit of the peer at which an end waits
-abbrev pub wait_told : sender.Blocked → Event
-wait_told (stops.Connection most) = event.Waits (limit.ConnectionData most)
-wait_told (stops.Data k most) = event.Waits (limit.StreamData k most)
-wait_told (stops.Money k most total) = event.Waits (limit.StreamMoney k most total)
+abbrev pub wait_told : Blocked → Event
+wait_told at = event.Waits at
 
 -- a limit that the next Prepare reports
 abbrev pub told_by_next : Blocked → Reached
@@ -61,9 +57,9 @@ told_by_next at = record { limit = at; is_sent = false }
 
 -- one on money stays while bytes are sent
 abbrev pub is_on_money : Blocked → Bool
-is_on_money (limit.ConnectionData most) = false
-is_on_money (limit.StreamData k most) = false
-is_on_money (limit.StreamMoney k most total) = true
+is_on_money (limit.Connection most) = false
+is_on_money (limit.Data k most) = false
+is_on_money (limit.Money k most total) = true
 
 -- what is known of a limit once one more Prepare is sent: if that is not the one that reports it, a limit on bytes was raised
 abbrev pub after_next : Reached → Option Reached
@@ -71,6 +67,6 @@ after_next r = if r.is_sent then (if is_on_money r.limit then Some r else None) 
 
 -- the limit at which an end waits that paid this number of units: one on money was raised if more was paid since
 abbrev pub waits_at : Blocked → (paid : ℕ) → Option Blocked
-waits_at (limit.ConnectionData most) paid = Some (limit.ConnectionData most)
-waits_at (limit.StreamData k most) paid = Some (limit.StreamData k most)
-waits_at (limit.StreamMoney k most total) paid = if paid == total then Some (limit.StreamMoney k most total) else None
+waits_at (limit.Connection most) paid = Some (limit.Connection most)
+waits_at (limit.Data k most) paid = Some (limit.Data k most)
+waits_at (limit.Money k most total) paid = if paid == total then Some (limit.Money k most total) else None

@@ -31,17 +31,17 @@ pub const ADDRESS_SECONDS: u64 = 3;
 
 /// The host at which a neighbour is reached, and the token that it knows this side by.
 #[derive(Drop)]
-struct Neighbour<A: Allocator + Copy> {
+struct HostAndToken<A: Allocator + Copy> {
     host: String<A>,
     token: String<A>,
 }
 
-impl<A: Allocator + Copy> Model for Neighbour<A> {
+impl<A: Allocator + Copy> Model for HostAndToken<A> {
     ghost use Rattle.std.specs.Prelude.{IsTrue, string_bytes};
     ghost use Rattle.st_http.specs.Texts as texts;
     ghost use Rattle.ilpstream_serving.specs.Links as links;
 
-    ghost Value = { links.Neighbour };
+    ghost Value = { links.HostAndToken };
 
     ghost view = { λ a. record { host = string_bytes a.host; token = string_bytes a.token } };
 
@@ -53,7 +53,7 @@ impl<A: Allocator + Copy> Model for Neighbour<A> {
 #[derive(Drop)]
 pub struct HttpLink<'n, N: Net + Clock, A: Allocator + Copy> {
     net: &'n N,
-    neighbour: Option<Neighbour<A>>,
+    neighbour: Option<HostAndToken<A>>,
     /// The address that answered the last exchange.
     address: Option<SocketAddr>,
     /// The number of calls of its stream that an exchange may make.
@@ -111,7 +111,7 @@ fn share_of(left: Duration, addresses: u32) -> Duration
     }
 }
 
-impl<A: Allocator + Copy> Neighbour<A> {
+impl<A: Allocator + Copy> HostAndToken<A> {
     /// One exchange on a stream to it.
     fn exchange<S: Read + Write + Drop>(
         &self,
@@ -152,7 +152,7 @@ impl<'n, N: Net + Clock, A: Allocator + Copy> HttpLink<'n, N, A> {
         ensures turns { IfOk result (λ l. l.turns ≡ turns) }
         ensures fresh { IfOk result (λ l. (l.address ≡ None) × (l.cause ≡ None)) }
     {
-        let neighbour = Neighbour {
+        let neighbour = HostAndToken {
             host: String::from_str(alloc, host)?,
             token: String::from_str(alloc, token)?,
         };

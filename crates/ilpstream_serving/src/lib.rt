@@ -30,11 +30,12 @@ pub use ended::Ended;
 pub use error::TransferError;
 pub use http_link::{ADDRESS_SECONDS, ANSWER_SECONDS, HttpLink};
 pub use journal::{LogFile, log_anew, log_in, without_waits};
-pub use neighbour::{Neighbour, Neighbourhood, link_to};
+pub use neighbour::{Neighbourhood, link_to};
 pub use serving::{
     PAUSE, TRIES, Tried, WRITE_SECONDS, accept_next, accept_soon, accept_without_waits, serve_on,
     shut,
 };
+pub use st_http::Neighbour;
 pub use telling::{
     Log, Refusal, Sent, cause_in, cause_of, refusal_of, tell, tell_connection, tell_end,
     tell_outcome, tell_refused, tell_served,

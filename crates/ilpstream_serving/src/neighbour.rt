@@ -1,44 +1,16 @@
-//! The addresses of neighbours.
+//! The links to neighbours.
 
-ghost use Rattle.std.specs.Prelude.{◌≡◌, ◌↔◌, IsTrue, IsNone, IsSome, IfOk, IfSome, MatchOption, Some, slice_get};
-ghost use Rattle.st_http.specs.Texts as texts;
+ghost use Rattle.std.specs.Prelude.{◌≡◌, IsNone, IfOk, MatchOption, Some, slice_get};
 
 use crate::cause::{LinkCause, Unreached};
 use crate::http_link::HttpLink;
-use st_http::is_field_text;
+use st_http::Neighbour;
 use st_ilp::Moment;
 use st_links::{Link, Outcome};
 use std::alloc::{AllocError, Global};
 use std::net::{Net, SocketAddr};
 use std::sync::{Mutex, Wait};
 use std::time::Clock;
-
-/// The address of a neighbour, written HOST:PORT, and the bearer token by which the neighbour knows this side (RFC
-/// 0035).
-#[derive(Clone, Copy)]
-pub struct Neighbour<'a> {
-    host: &'a str,
-    token: &'a str,
-    ghost host_is: { IsTrue (texts.is_field_text host.now) },
-    ghost token_is: { IsTrue (texts.is_field_text token.now) },
-}
-
-impl<'a> Neighbour<'a> {
-    /// Makes a neighbour. Returns `None` if one of the two texts may not be written in a request: each is to have 1 to
-    /// 255 characters from 0x21 to 0x7e (`st_http::is_field_text`).
-    pub fn new(host: &'a str, token: &'a str) -> Option<Neighbour<'a>>
-        ensures taken { IsSome result ↔ (IsTrue (texts.is_field_text host.now) × IsTrue (texts.is_field_text token.now)) }
-        ensures parts { IfSome result (λ n. (n.host.now ≡ host.now) × (n.token.now ≡ token.now)) }
-    {
-        if !is_field_text(host) {
-            return None;
-        }
-        if !is_field_text(token) {
-            return None;
-        }
-        Some(Neighbour { host, token })
-    }
-}
 
 /// A link to a neighbour, with at most `turns` I/O calls of its TCP stream for each exchange.
 pub fn link_to<'n, N: Net + Clock>(

@@ -1,7 +1,7 @@
 //! The arguments of a transfer and of a connector.
 
 use crate::journal::LogFile;
-use crate::neighbour::Neighbour;
+use st_http::Neighbour;
 use std::time::Duration;
 
 /// What a sender is to do, apart from its input.

@@ -98,8 +98,8 @@ fn after_next(reached: Reached) -> Option<Reached>
         });
     }
     match limit {
-        Blocked::ConnectionData { .. } | Blocked::StreamData { .. } => None,
-        Blocked::StreamMoney { .. } => Some(reached),
+        Blocked::Connection { .. } | Blocked::Data { .. } => None,
+        Blocked::Money { .. } => Some(reached),
     }
 }
 
@@ -108,8 +108,8 @@ fn waits_at(limit: Blocked, paid: u64) -> Option<Blocked>
     ensures { result ≡ spec.waits_at limit paid }
 {
     match limit {
-        Blocked::ConnectionData { .. } | Blocked::StreamData { .. } => Some(limit),
-        Blocked::StreamMoney { total, .. } => { if paid == total { Some(limit) } else { None } }
+        Blocked::Connection { .. } | Blocked::Data { .. } => Some(limit),
+        Blocked::Money { total, .. } => { if paid == total { Some(limit) } else { None } }
     }
 }
 

@@ -8,7 +8,7 @@ use Rattle.st_hop.specs.declared.route.Route.{Route}
 use Rattle.ilpstream_settings.specs.declared.fault.LineFault.{LineFault}
 use Rattle.ilpstream_settings.specs.declared.fault.LineFault.TheVariants as fault
 use Rattle.ilpstream_settings.specs.declared.line.AccountLine.{AccountLine}
-use Rattle.ilpstream_settings.specs.declared.line.Neighbour.{Neighbour}
+use Rattle.st_http.specs.declared.neighbour.Neighbour.{Neighbour}
 use Rattle.ilpstream_settings.specs.Faults.{Breaks, BreaksRated, BreaksTerms, IsGood, IsNoNumber, IsNowhere}
 use Rattle.ilpstream_settings.specs.Numbers.{AreTerms, IsHostPort, IsNumber}
 use Rattle.ilpstream_settings.specs.Settings.{most_money, said}

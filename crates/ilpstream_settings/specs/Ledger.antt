@@ -6,8 +6,8 @@ use Rattle.ilpstream_settings.specs.declared.options.LedgerOptions.{LedgerOption
 use Rattle.ilpstream_settings.specs.declared.ledger.LedgerSettings.{LedgerSettings}
 use Rattle.ilpstream_settings.specs.declared.ledger.Payment.{Payment}
 use Rattle.ilpstream_settings.specs.declared.ledger.Kind.TheVariants.{Settle, Adjust}
-use Rattle.ilpstream_settings.specs.declared.ledger.Side.{Side}
-use Rattle.ilpstream_settings.specs.declared.ledger.Side.TheVariants.{Claims, Dues}
+use Rattle.st_links.specs.declared.side.BalanceSide.{BalanceSide}
+use Rattle.st_links.specs.declared.side.BalanceSide.TheVariants.{Claims, Dues}
 use Rattle.ilpstream_settings.specs.Settings.{IsWithin, most_money}
 
 -- the texts of `ledger`
@@ -22,7 +22,7 @@ ledger_texts o = record {
 }
 
 -- The text writes an amount, in units: by digits alone of what an account owes, and after a minus of what it is owed.
-abbrev pub IsAmount : List ℕ → Side → ℕ → Type 0
+abbrev pub IsAmount : List ℕ → BalanceSide → ℕ → Type 0
 IsAmount text Claims n = IsWithin 1 most_money text n
 IsAmount text Dues n = (digits : List ℕ) × (text ≡ codes "-" ++ digits) × IsWithin 1 most_money digits n
 
@@ -31,7 +31,7 @@ abbrev pub is_reference : List ℕ → Bool
 is_reference text = (nat_le 1 (length text) && nat_le (length text) 128) && list_all (λ b. nat_le 32 b && nat_le b 126) text
 
 -- the word names the side
-abbrev pub IsSide : List ℕ → Side → Type 0
+abbrev pub IsSide : List ℕ → BalanceSide → Type 0
 IsSide word Claims = word ≡ codes "claims"
 IsSide word Dues = word ≡ codes "dues"
 

@@ -5,7 +5,7 @@ use Rattle.std.specs.Str.Lines.{lines}
 use Rattle.st_oer.specs.Ratios.{Ratio, ratio}
 use Rattle.st_http.specs.Texts.{is_field_text}
 use Rattle.st_hop.specs.declared.route.Route.{Route}
-use Rattle.ilpstream_settings.specs.declared.line.Neighbour.{Neighbour}
+use Rattle.st_http.specs.declared.neighbour.Neighbour.{Neighbour}
 use Rattle.ilpstream_settings.specs.declared.line.AccountLine.{AccountLine}
 use Rattle.ilpstream_settings.specs.Numbers.{AreTerms, IsHostPort, IsNumber}
 use Rattle.ilpstream_settings.specs.Settings.{most_money, said}

@@ -5,12 +5,13 @@ ghost use Rattle.ilpstream_settings.specs.Ledger as spec;
 ghost use Rattle.ilpstream_settings.specs.Settings.{IsWithin, most_money};
 ghost use Rattle.ilpstream_settings.specs.declared.ledger.LedgerSettings.{LedgerSettings};
 ghost use Rattle.ilpstream_settings.specs.declared.ledger.Payment.{Payment};
-ghost use Rattle.ilpstream_settings.specs.declared.ledger.Side.{Side};
+ghost use Rattle.st_links.specs.declared.side.BalanceSide.{BalanceSide};
 ghost use Rattle.ilpstream_settings.specs.Ledger.{IsAdjust, IsAdjusted, IsAmount, IsLedger, IsPaidOnce, IsPayment, IsSettle, IsSettleOnce, IsSide, Pays, ledger_texts};
 
 use crate::options::LedgerOptions;
 use crate::settings::{MAX_MONEY, number_within};
 use st_http::is_field_text;
+use st_links::BalanceSide;
 
 /// Whether an amount is taken off or added.
 #[derive(Clone, Copy, Debug, PartialEq, Eq)]
@@ -19,15 +20,6 @@ pub enum Kind {
     Settle,
     /// What both sides agreed on: it is added.
     Adjust,
-}
-
-/// Which of an account's two amounts is changed.
-#[derive(Clone, Copy, Debug, PartialEq, Eq)]
-pub enum Side {
-    /// What the account owes. It paid, if a payment is booked here.
-    Claims,
-    /// What is owed to the account: it was paid.
-    Dues,
 }
 
 /// A payment outside Interledger between the connector and a neighbour, or an adjustment.
@@ -40,7 +32,7 @@ pub struct Payment<'a> {
     /// The amount, in units: 1 to 2^63 - 1.
     pub amount: u64,
     /// What the amount changes.
-    pub side: Side,
+    pub side: BalanceSide,
     /// By which it is booked once: 1 to 128 characters from 0x20 to 0x7e. An adjustment has one.
     pub reference: Option<&'a str>,
 }
@@ -55,13 +47,13 @@ pub struct LedgerSettings<'a> {
 }
 
 /// The amount that a text writes, and what it is taken off: dues if it begins with a minus.
-fn amount_of(text: &str) -> Option<(Side, u64)>
-    ensures { MatchOption result ((s : Side) (n : ℕ) → ¬ (IsAmount text.now s n)) (λ p. IsAmount text.now p.0 p.1) }
+fn amount_of(text: &str) -> Option<(BalanceSide, u64)>
+    ensures { MatchOption result ((s : BalanceSide) (n : ℕ) → ¬ (IsAmount text.now s n)) (λ p. IsAmount text.now p.0 p.1) }
 {
     let bytes = text.as_bytes();
     match bytes.strip_prefix(b"-") {
-        Some(digits) => Some((Side::Dues, number_within(digits, 1, MAX_MONEY)?)),
-        None => Some((Side::Claims, number_within(bytes, 1, MAX_MONEY)?)),
+        Some(digits) => Some((BalanceSide::Dues, number_within(digits, 1, MAX_MONEY)?)),
+        None => Some((BalanceSide::Claims, number_within(bytes, 1, MAX_MONEY)?)),
     }
 }
 
@@ -148,14 +140,14 @@ fn settle_once_of<'a>(words: &[&'a str]) -> Option<Payment<'a>>
 }
 
 /// The side that a word names.
-fn side_of(word: &str) -> Option<Side>
-    ensures { MatchOption result ((s : Side) → ¬ (IsSide word.now s)) (IsSide word.now) }
+fn side_of(word: &str) -> Option<BalanceSide>
+    ensures { MatchOption result ((s : BalanceSide) → ¬ (IsSide word.now s)) (IsSide word.now) }
 {
     if word == "claims" {
-        return Some(Side::Claims);
+        return Some(BalanceSide::Claims);
     }
     if word == "dues" {
-        return Some(Side::Dues);
+        return Some(BalanceSide::Dues);
     }
     None
 }

@@ -26,8 +26,8 @@ pub use error::TableError;
 pub use fault::{LineFault, TableFault, table_fault};
 pub use first_line::{first_secret, first_token};
 pub use laws::{a_bad_text_says_no_table, lines_say_one_table};
-pub use ledger::{Kind, LedgerSettings, Payment, Side, is_reference};
-pub use line::{AccountLine, Neighbour};
+pub use ledger::{Kind, LedgerSettings, Payment, is_reference};
+pub use line::AccountLine;
 pub use number::read_number;
 pub use options::{ConnectorOptions, LedgerOptions, LocalOptions, ReceiveOptions, SendOptions};
 pub use settings::{
@@ -35,6 +35,8 @@ pub use settings::{
     MAX_MONEY, MAX_PATIENCE, MAX_REQUESTS, MAX_STREAMS, MAX_WORKERS, ReceiveSettings, SendSettings,
 };
 pub use source::{Secret, Token};
+pub use st_http::Neighbour;
+pub use st_links::BalanceSide;
 pub use table::{Table, read_table};
 pub use text::{read_rate, read_secret};
 pub use whole::{WholeFault, WholeRule, whole_fault};

@@ -2,8 +2,8 @@
 
 ghost use Rattle.std.specs.Prelude.{◌≡◌, ◌∷◌, ℕ, List, Option, IfOk, MatchOption, codes, map};
 ghost use Rattle.ilpstream_settings.specs.declared.line.AccountLine.{AccountLine};
-ghost use Rattle.ilpstream_settings.specs.declared.line.Neighbour.{Neighbour};
 ghost use Rattle.st_hop.specs.declared.route.Route.{Route};
+ghost use Rattle.st_http.specs.declared.neighbour.Neighbour.{Neighbour};
 ghost use Rattle.ilpstream_settings.specs.Numbers.{IsNumber};
 ghost use Rattle.ilpstream_settings.specs.Settings.{most_money, said};
 ghost use Rattle.ilpstream_settings.specs.Table.{IsAccount, IsAccountLine, IsNaming, IsRoute, IsRouteLine, Leads};
@@ -13,18 +13,9 @@ use crate::number::read_number;
 use crate::settings::MAX_MONEY;
 use crate::text::{is_host_port, rate_of};
 use st_hop::{Account, Route};
-use st_http::is_field_text;
+use st_http::{Neighbour, is_field_text};
 use st_oer::Rate;
 use std::alloc::{AllocError, Allocator};
-
-/// The neighbour to which the Prepares for an account are sent.
-#[derive(Clone, Copy, Debug)]
-pub struct Neighbour<'a> {
-    /// The neighbour, written HOST:PORT.
-    pub host: &'a str,
-    /// The bearer token by which the neighbour knows the connector: 1 to 255 visible characters.
-    pub token: &'a str,
-}
 
 /// An account of a connector's table.
 #[derive(Clone, Copy, Debug)]

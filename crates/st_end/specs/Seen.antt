@@ -6,7 +6,7 @@ use Rattle.st_receiver.specs.Decided.{got_seen}
 use Rattle.st_receiver.specs.Reading as reading
 use Rattle.st_end.specs.declared.error.EndError.{EndError}
 use Rattle.st_end.specs.declared.received.Received.{Received}
-use Rattle.st_end.specs.declared.totals.Totals.{Totals}
+use Rattle.st_streams.specs.declared.totals.EndTotals.{EndTotals}
 use Rattle.st_end.specs.Totals as totals
 use Rattle.st_end.specs.Receiving as receiving
 
@@ -17,7 +17,7 @@ abbrev pub read_seen : {X : Type 0} → Result (Got X) EndError → Result readi
 read_seen (Ok got) = Ok (got_seen got)
 read_seen (Err why) = Err why
 
-abbrev pub totals_seen : Totals → totals.Totals
+abbrev pub totals_seen : EndTotals → totals.Totals
 totals_seen t = record { accepted = t.accepted; delivered = t.delivered; credited = t.credited; paid = t.paid }
 
 -- an address that was found, else another

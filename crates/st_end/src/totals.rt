@@ -16,20 +16,8 @@ use crate::error::EndError;
 use crate::flight::Flight;
 use st_receiver::Got;
 use st_sender::Blocked;
+use st_streams::EndTotals;
 use std::alloc::Allocator;
-
-/// The totals of an end. None of them falls, and each is at most 2^64 - 1.
-#[derive(Clone, Copy, Debug, PartialEq, Eq)]
-pub struct Totals {
-    /// The number of bytes accepted by `EndState::write`.
-    pub accepted: u64,
-    /// The number of bytes given by `EndState::read`.
-    pub delivered: u64,
-    /// The sum of the amounts of the Prepares that it fulfilled, in units of this end's asset.
-    pub credited: u64,
-    /// The sum of the amounts of the Prepares whose Fulfill it took, in units of this end's asset.
-    pub paid: u64,
-}
 
 /// A count as it is reported.
 fn capped(count: u128) -> u64
@@ -44,10 +32,10 @@ fn capped(count: u128) -> u64
 
 impl<A: Allocator + Copy> EndState<A> {
     /// The totals of this end. Does not allocate.
-    pub fn totals(&self) -> Totals
+    pub fn totals(&self) -> EndTotals
         ensures { totals_seen result ≡ totals.totals self.now }
     {
-        Totals {
+        EndTotals {
             accepted: capped(self.outbox.accepted()),
             delivered: capped(self.intake.delivered()),
             credited: self.intake.credited(),

@@ -12,6 +12,7 @@ mod books;
 mod error;
 mod hop;
 mod laws;
+mod open_ticket;
 mod refusal;
 mod room;
 mod route;
@@ -28,6 +29,7 @@ pub use laws::{
     arrivals_go_across, books_go_on, every_run_balances, every_run_is_lawful, longest_route_law,
     prepares_go_on_as_routed, settlements_book, tickets_settle_once,
 };
+pub use open_ticket::OpenTicket;
 pub use refusal::Refusal;
 pub use route::{NextHop, Route};
 pub use settling::Closing;

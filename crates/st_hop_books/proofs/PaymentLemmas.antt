@@ -4,7 +4,7 @@ use Rattle.std.specs.List.{AllByRecursion}
 use Rattle.sqlite_value.specs.declared.value.Value.TheVariants.{Null, Int, Text}
 use Rattle.sqlite_value.specs.Order.{Row, column}
 use Rattle.sqlite_trees.specs.Tree.{put_row}
-use Rattle.st_hop_books.specs.declared.balance.Side.{Side}
+use Rattle.st_links.specs.declared.side.BalanceSide.{BalanceSide}
 use Rattle.st_hop_books.specs.declared.balance.Kind.{Kind}
 use Rattle.st_hop_books.specs.declared.balance.Payment.{Payment}
 use Rattle.st_hop_books.specs.declared.balance.Tally.{Tally}
@@ -26,7 +26,7 @@ module _ (name text : List ℕ) (amount moment : ℕ) where
       subst (λ k. put_row (payment_line k name text amount moment) paid ≡ paid ++ payment_line k name text amount moment ∷ []) (sym moved) (put_behind (suc id) paid all.1) in
       rw (first, lower_id id (id + suc (length paid)) below) (ap (λ rows. row ∷ rows) there)
 
-  pushed : (kind : Kind) (side : Side) → IsEntryText kind side text → (id : ℕ) (paid : List Row) → ArePaymentsFrom id paid → ArePaymentsFrom id (paid ++ payment_line (id + length paid) name text amount moment ∷ [])
+  pushed : (kind : Kind) (side : BalanceSide) → IsEntryText kind side text → (id : ℕ) (paid : List Row) → ArePaymentsFrom id paid → ArePaymentsFrom id (paid ++ payment_line (id + length paid) name text amount moment ∷ [])
   pushed kind side is id [] all =
       let here : id + 0 ≡ id = omega arith in
       (record { name = name; kind = kind; side = side; text = text; text_is = is; amount = amount; moment = moment; is = ap (λ k. payment_line k name text amount moment) here }, tt)

@@ -5,34 +5,34 @@ use Rattle.sqlite_value.specs.declared.value.Value.{Value}
 use Rattle.sqlite_value.specs.declared.value.Value.TheVariants.{Null, Int, Text}
 use Rattle.sqlite_value.specs.Order.{Row, column}
 use Rattle.st_hop_books.specs.declared.balance.Amounts.{Amounts}
-use Rattle.st_hop_books.specs.declared.balance.Side.{Side}
-use Rattle.st_hop_books.specs.declared.balance.Side.TheVariants.{Claims, Dues}
+use Rattle.st_links.specs.declared.side.BalanceSide.{BalanceSide}
+use Rattle.st_links.specs.declared.side.BalanceSide.TheVariants.{Claims, Dues}
 use Rattle.st_hop_books.specs.declared.balance.Kind.{Kind}
 use Rattle.st_hop_books.specs.declared.balance.Kind.TheVariants.{Paid, Adjusted}
 use Rattle.st_hop_books.specs.declared.balance.Payment.{Payment}
 use Rattle.st_hop_books.specs.declared.balance.Entry.{Entry}
 use Rattle.st_hop_books.specs.Sums.{amounts_at}
 
-abbrev pub paying : Kind → (account : ℕ) (side : Side) (amount moment : ℕ) → Payment
+abbrev pub paying : Kind → (account : ℕ) (side : BalanceSide) (amount moment : ℕ) → Payment
 paying kind account side amount moment = record { account = account; kind = kind; side = side; amount = amount; moment = moment }
 
 -- what is owed on a side
-abbrev pub on_side : Side → Amounts → ℕ
+abbrev pub on_side : BalanceSide → Amounts → ℕ
 on_side Claims a = a.claims
 on_side Dues a = a.dues
 
 -- the amounts of an account, of which an amount was paid on a side
-abbrev pub less : Side → (amount : ℕ) → Amounts → Amounts
+abbrev pub less : BalanceSide → (amount : ℕ) → Amounts → Amounts
 less Claims amount a = record { claims = a.claims - amount; dues = a.dues }
 less Dues amount a = record { claims = a.claims; dues = a.dues - amount }
 
 -- the same, to which an amount was added
-abbrev pub more : Side → (amount : ℕ) → Amounts → Amounts
+abbrev pub more : BalanceSide → (amount : ℕ) → Amounts → Amounts
 more Claims amount a = record { claims = a.claims + amount; dues = a.dues }
 more Dues amount a = record { claims = a.claims; dues = a.dues + amount }
 
 -- a payment is taken off, and an adjustment is added
-abbrev pub changed : Kind → Side → (amount : ℕ) → Amounts → Amounts
+abbrev pub changed : Kind → BalanceSide → (amount : ℕ) → Amounts → Amounts
 changed Paid = less
 changed Adjusted = more
 
@@ -40,12 +40,12 @@ abbrev pub paid_off : List Amounts → Payment → List Amounts
 paid_off all p = slice_set all p.account (changed p.kind p.side p.amount (amounts_at all p.account))
 
 -- the amount is owed, if it is to be taken off
-abbrev pub Covers : Kind → Side → (amount : ℕ) → Amounts → Type 0
+abbrev pub Covers : Kind → BalanceSide → (amount : ℕ) → Amounts → Type 0
 Covers Paid side amount a = amount ≤ on_side side a
 Covers Adjusted side amount a = ⊤
 
 -- less is owed than is to be taken off
-abbrev pub FallsShort : Kind → Side → (amount : ℕ) → Amounts → Type 0
+abbrev pub FallsShort : Kind → BalanceSide → (amount : ℕ) → Amounts → Type 0
 FallsShort Paid side amount a = on_side side a < amount
 FallsShort Adjusted side amount a = ⊥
 
@@ -63,7 +63,7 @@ IsShort all p = FallsShort p.kind p.side p.amount (amounts_at all p.account)
 abbrev pub payment_text : List ℕ
 payment_text = codes "CREATE TABLE payment (id INTEGER PRIMARY KEY, name TEXT NOT NULL, side TEXT NOT NULL, amount INTEGER NOT NULL, moment INTEGER NOT NULL) STRICT"
 
-abbrev pub side_text : Side → List ℕ
+abbrev pub side_text : BalanceSide → List ℕ
 side_text Claims = codes "claims"
 side_text Dues = codes "dues"
 
@@ -77,11 +77,11 @@ abbrev pub reference_text : List ℕ → List ℕ
 reference_text [] = []
 reference_text (b ∷ reference) = 32 ∷ b ∷ reference
 
-abbrev pub entry_text : Kind → Side → (reference : List ℕ) → List ℕ
+abbrev pub entry_text : Kind → BalanceSide → (reference : List ℕ) → List ℕ
 entry_text kind side reference = sign_text kind ++ side_text side ++ reference_text reference
 
 -- a text of an entry of this kind and side
-abbrev pub IsEntryText : Kind → Side → (text : List ℕ) → Type 0
+abbrev pub IsEntryText : Kind → BalanceSide → (text : List ℕ) → Type 0
 IsEntryText kind side text = (rest : List ℕ) × (text ≡ sign_text kind ++ side_text side ++ rest)
 
 -- a row of it: the id, NULL in the column of the key, the account's name, the text of the entry, the amount and the moment
@@ -91,7 +91,7 @@ payment_line id name text amount moment = Int (pos id) ∷ Null ∷ Text name �
 pub record IsPaymentLine (id : ℕ) (row : Row) : Type 0 where
   pub name : List ℕ
   pub kind : Kind
-  pub side : Side
+  pub side : BalanceSide
   pub text : List ℕ
   pub text_is : IsEntryText kind side text
   pub amount : ℕ
@@ -162,5 +162,5 @@ FindsText rows name paid adjusted None = HasNone name paid adjusted rows
 FindsText rows name paid adjusted (Some e) = HasLine rows name (text_for paid adjusted e.kind) e.amount
 
 -- what the rows have under a reference, of one account and side: nothing, or one entry of either kind
-abbrev pub Finds : List Row → (name : List ℕ) → Side → (reference : List ℕ) → Option Entry → Type 0
+abbrev pub Finds : List Row → (name : List ℕ) → BalanceSide → (reference : List ℕ) → Option Entry → Type 0
 Finds rows name side reference found = FindsText rows name (entry_text Paid side reference) (entry_text Adjusted side reference) found

@@ -6,6 +6,7 @@ ghost use Rattle.st_hop_books.specs.Sums.{IsAbove};
 ghost use Rattle.st_hop_books.specs.declared.error.BooksError.TheVariants.{TooLittle, TooMuch};
 
 use crate::error::BooksError;
+use st_links::BalanceSide;
 
 /// What is owed between a connector and an account, in units.
 #[derive(Clone, Copy, Debug, PartialEq, Eq)]
@@ -25,15 +26,6 @@ pub enum Kind {
     Adjusted,
 }
 
-/// Which of an account's sums an entry changes.
-#[derive(Clone, Copy, Debug, PartialEq, Eq)]
-pub enum Side {
-    /// What the account owes.
-    Claims,
-    /// What the account is owed.
-    Dues,
-}
-
 /// A payment outside Interledger, or an adjustment.
 #[derive(Clone, Copy, Debug, PartialEq, Eq)]
 pub struct Payment {
@@ -42,7 +34,7 @@ pub struct Payment {
     /// Whether its amount is taken off or added.
     pub kind: Kind,
     /// The sum that it changes.
-    pub side: Side,
+    pub side: BalanceSide,
     /// In units.
     pub amount: u64,
     /// When it was booked, in milliseconds since 1970.
@@ -70,20 +62,20 @@ pub(crate) struct Tally {
 }
 
 /// What a payment leaves of an account's amounts, if they cover it.
-fn take_off(amounts: Amounts, side: Side, amount: u64) -> Option<Amounts>
+fn take_off(amounts: Amounts, side: BalanceSide, amount: u64) -> Option<Amounts>
     ensures left { IfSome result (λ a. a ≡ less side amount amounts) }
     ensures covered { IfSome result (λ a. amount ≤ on_side side amounts) }
     ensures short { result ≡ None → on_side side amounts < amount }
 {
     let Amounts { claims, dues } = amounts;
     match side {
-        Side::Claims => {
+        BalanceSide::Claims => {
             let Some(claims) = claims.checked_sub(amount) else {
                 return None;
             };
             Some(Amounts { claims, dues })
         }
-        Side::Dues => {
+        BalanceSide::Dues => {
             let Some(dues) = dues.checked_sub(amount) else {
                 return None;
             };
@@ -93,19 +85,19 @@ fn take_off(amounts: Amounts, side: Side, amount: u64) -> Option<Amounts>
 }
 
 /// What an adjustment makes of an account's amounts, if they can be counted.
-fn add_on(amounts: Amounts, side: Side, amount: u64) -> Option<Amounts>
+fn add_on(amounts: Amounts, side: BalanceSide, amount: u64) -> Option<Amounts>
     ensures more { IfSome result (λ a. a ≡ more side amount amounts) }
     ensures above { result ≡ None → IsAbove (more side amount amounts) }
 {
     let Amounts { claims, dues } = amounts;
     match side {
-        Side::Claims => {
+        BalanceSide::Claims => {
             let Some(claims) = claims.checked_add(amount) else {
                 return None;
             };
             Some(Amounts { claims, dues })
         }
-        Side::Dues => {
+        BalanceSide::Dues => {
             let Some(dues) = dues.checked_add(amount) else {
                 return None;
             };
@@ -118,7 +110,7 @@ fn add_on(amounts: Amounts, side: Side, amount: u64) -> Option<Amounts>
 pub(crate) fn change(
     amounts: Amounts,
     kind: Kind,
-    side: Side,
+    side: BalanceSide,
     amount: u64,
 ) -> Result<Amounts, BooksError>
     ensures changed { IfOk result (λ a. a ≡ changed kind side amount amounts) }

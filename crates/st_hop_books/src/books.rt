@@ -12,7 +12,7 @@ ghost use Rattle.st_hop_books.specs.Payments.{name_at, Finds, IsCovered};
 ghost use Rattle.st_hop_books.specs.Standing.{Holds, trail_in};
 ghost use Rattle.st_hop_books.specs.Commits.{Commits, Makes, Refuses, Rereads, IsBecause, KeepsFor, after_bookings, after_name, after_start, after_payment, bookings_excuses, name_excuses, start_excuses, entering_excuses};
 
-use crate::balance::{Amounts, Entry, Kind, Payment, Side, Tally};
+use crate::balance::{Amounts, Entry, Kind, Payment, Tally};
 use crate::error::BooksError;
 use crate::looking::find;
 use crate::names::{place_of, with_name};
@@ -23,7 +23,7 @@ use sqlite_store::FileStore;
 use sqlite_trees::store::Alter;
 use sqlite_value::row::Row;
 use sqlite_value::value::Bytes;
-use st_links::{Booking, Keeper};
+use st_links::{BalanceSide, Booking, Keeper};
 use std::alloc::Global;
 use std::marker::Model;
 
@@ -235,7 +235,7 @@ impl<S: Alter> Books<S> {
     pub fn entered(
         &mut self,
         account: usize,
-        side: Side,
+        side: BalanceSide,
         reference: &str,
     ) -> Result<Option<Entry>, BooksError>
         requires { account < length self.old.names }

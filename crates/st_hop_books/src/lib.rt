@@ -25,9 +25,10 @@ mod paying;
 mod stamp;
 mod table;
 
-pub use balance::{Amounts, Entry, Kind, Payment, Side};
+pub use balance::{Amounts, Entry, Kind, Payment};
 pub use books::Books;
 pub use error::BooksError;
 pub use existing::{open_existing, open_existing_files};
 pub use laws::the_next_open_finds_them;
 pub use opening::{open, open_files};
+pub use st_links::BalanceSide;

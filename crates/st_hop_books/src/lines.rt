@@ -8,9 +8,10 @@ ghost use Rattle.st_hop_books.specs.declared.balance.Kind.TheVariants.{Paid, Adj
 ghost use Rattle.st_hop_books.specs.Payments.{sign_text, side_text, payment_line};
 ghost use Rattle.st_hop_books.specs.Table.{line};
 
-use crate::balance::{Amounts, Kind, Side};
+use crate::balance::{Amounts, Kind};
 use sqlite_value::row::Row;
 use sqlite_value::value::ValueRef;
+use st_links::BalanceSide;
 
 /// The number in a column, if it is one and not below 0.
 pub(crate) fn count_in(row: &Row, at: usize) -> Option<u64>
@@ -70,14 +71,14 @@ fn kind_in(text: &[u8]) -> (Kind, &[u8])
 }
 
 /// The side that a text begins with, and the rest of the text.
-fn side_in(text: &[u8]) -> Option<(Side, &[u8])>
+fn side_in(text: &[u8]) -> Option<(BalanceSide, &[u8])>
     ensures { IfSome result (λ s. text.now ≡ side_text s.0 ++ s.1.now) }
 {
     if let Some(rest) = text.strip_prefix(b"claims") {
-        return Some((Side::Claims, rest));
+        return Some((BalanceSide::Claims, rest));
     }
     let rest = text.strip_prefix(b"dues")?;
-    Some((Side::Dues, rest))
+    Some((BalanceSide::Dues, rest))
 }
 
 /// The parts of a payment's line.
@@ -86,7 +87,7 @@ pub(crate) struct PaymentLine<'a> {
     name: &'a [u8],
     text: &'a [u8],
     kind: Kind,
-    side: Side,
+    side: BalanceSide,
     // A space and the reference, or nothing.
     rest: &'a [u8],
     amount: u64,

@@ -12,21 +12,22 @@ ghost use Rattle.st_hop_books.specs.Standing.{AddsEntry, Holds, Keeps, PutsRow, 
 ghost use Rattle.st_hop_books.specs.Reasons.{FailsOnlyFor, row_excuses};
 ghost use Rattle.st_hop_books.specs.Commits.{payment_excuses};
 
-use crate::balance::{Amounts, Kind, Payment, Side, Tally, change};
+use crate::balance::{Amounts, Kind, Payment, Tally, change};
 use crate::error::BooksError;
 use crate::table::{conclude, counted, set_line};
 use sqlite_trees::store::Alter;
 use sqlite_value::row::Row;
 use sqlite_value::value::{Bytes, ValueRef};
+use st_links::BalanceSide;
 use std::alloc::{AllocError, Global};
 
 /// The word of a side in the second table.
-fn word_of(side: Side) -> &'static [u8]
+fn word_of(side: BalanceSide) -> &'static [u8]
     ensures { result.now ≡ side_text side }
 {
     match side {
-        Side::Claims => b"claims",
-        Side::Dues => b"dues",
+        BalanceSide::Claims => b"claims",
+        BalanceSide::Dues => b"dues",
     }
 }
 
@@ -44,7 +45,7 @@ fn sign_of(kind: Kind) -> &'static [u8]
 pub(crate) fn text_of(
     alloc: Global,
     kind: Kind,
-    side: Side,
+    side: BalanceSide,
     reference: &str,
 ) -> Result<Vec<u8>, AllocError>
     ensures { IfOk result (λ text. text.items ≡ entry_text kind side reference.now) }

@@ -15,6 +15,7 @@ mod fields;
 mod head;
 mod laws;
 mod length;
+mod neighbour;
 mod reading;
 mod reads;
 mod server;
@@ -28,6 +29,7 @@ pub use laws::{
     equal_numbers_have_equal_digits, heads_end_at_their_first_empty_line, messages_end,
     refusals_stay, wants_what_is_left,
 };
+pub use neighbour::Neighbour;
 pub use reading::Reading;
 pub use server::{refuse, respond, serve_one};
 pub use st_devices::Counting;

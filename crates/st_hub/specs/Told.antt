@@ -2,7 +2,7 @@
 use Rattle.std.specs.Prelude.{List, [], ◌∷◌}
 use Rattle.std.specs.declared.option.Option.{Option}
 use Rattle.std.specs.declared.option.Option.TheVariants.{None, Some}
-use Rattle.st_sender.specs.declared.notice.Blocked.{Blocked}
+use Rattle.st_streams.specs.declared.blocked.Blocked.{Blocked}
 use Rattle.st_hub.specs.Causes.{Cause}
 
 -- one call of it

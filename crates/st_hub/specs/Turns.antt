@@ -4,7 +4,7 @@ use Rattle.st_ilp.specs.Moments.{IsMoment}
 use Rattle.st_ilp.specs.Packets.{PreparePacket}
 use Rattle.st_ilp.specs.Spelling.{prepare_text}
 use Rattle.st_ilp.specs.Laws.{IsPrepare}
-use Rattle.st_sender.specs.declared.notice.Blocked.{Blocked}
+use Rattle.st_streams.specs.declared.blocked.Blocked.{Blocked}
 use Rattle.st_end.specs.declared.flight.Open.{Open}
 use Rattle.st_end.specs.State.{EndState}
 use Rattle.st_end.specs.Receiving.{Received, received}

@@ -1,7 +1,7 @@
 -- What a worker takes from its source of IVs and reads from its clock, what it sends over its link and reports to its observer, and why it
 -- ends.
 use Rattle.std.specs.Prelude.{◌≡◌, ◌≤◌, ◌⊎◌, ℕ, ℤ, List, [], ◌∷◌, ◌++◌, length, map, flat_map, Option, Some, None, Result}
-use Rattle.st_sender.specs.declared.notice.Blocked.{Blocked}
+use Rattle.st_streams.specs.declared.blocked.Blocked.{Blocked}
 use Rattle.st_sender.specs.Stops.{blocked_at}
 use Rattle.st_end.specs.declared.flight.Open.{Open}
 use Rattle.st_end.specs.State.{EndState}

@@ -18,8 +18,9 @@ ghost use Rattle.st_hub.specs.declared.error.HubError.TheVariants.{NoMemory};
 use crate::error::HubError;
 use crate::pumping::Pumped;
 use crate::streams::Streams;
-use st_end::{EndError, EndState, Failed, Totals};
+use st_end::{EndError, EndState, Failed};
 use st_queues::{Gauge, GaugeSeat, HubName, HubSeat, Named, Rings, StreamReader, StreamWriter};
+use st_streams::EndTotals;
 use std::alloc::Allocator;
 use std::marker::Model;
 use std::sync::ledger::{Blank, Book, Share};
@@ -255,7 +256,7 @@ impl<N: HubName<A>, A: Allocator + Copy> HubState<N, A> {
     }
 
     /// The end's totals so far: bytes accepted and delivered, units credited and paid. Does not allocate.
-    pub fn totals(&self) -> Totals
+    pub fn totals(&self) -> EndTotals
         ensures { totals_seen result ≡ totals.totals self.now.flow.core }
     {
         self.streams.core().totals()

@@ -27,7 +27,8 @@ use crate::{lanes, pumping};
 use st_end::{EndError, EndState, Flight, Received};
 use st_ilp::Moment;
 use st_links::Outcome;
-use st_queues::{HubName, ReadRing, StreamReader, StreamWriter, Totals, WriteRing};
+use st_queues::{HubName, ReadRing, StreamReader, StreamWriter, WriteRing};
+use st_streams::EndTotals;
 use std::alloc::Allocator;
 use std::marker::{Model, PhantomData};
 
@@ -82,16 +83,10 @@ impl<N: HubName<A>, A: Allocator + Copy> Streams<N, A> {
     }
 
     /// What the end did so far.
-    pub(crate) fn totals(&self) -> Totals
+    pub(crate) fn totals(&self) -> EndTotals
         ensures { result ≡ shown_of self.now.flow.core }
     {
-        let told = self.core.totals();
-        Totals {
-            accepted: told.accepted,
-            delivered: told.delivered,
-            credited: told.credited,
-            paid: told.paid,
-        }
+        self.core.totals()
     }
 
     /// The end.

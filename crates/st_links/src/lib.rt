@@ -3,7 +3,8 @@
 //!
 //! An exchange over a `Link` has an `Outcome`. The order of a connector is: the booking is stored, then the ticket is
 //! settled, then the Fulfill is passed on. Only `commit_all` and `commit_one` make a token, `Booked`, and only after
-//! the books' commit. The caller that settles a ticket passes its token by value.
+//! the books' commit. The caller that settles a ticket passes its token by value. A `BalanceSide` says which amount of an account
+//! a booking by hand changes.
 #![tactic(auto)]
 
 mod booked;
@@ -12,6 +13,7 @@ mod fail_link;
 mod keeper;
 mod link;
 mod outcome;
+mod side;
 
 pub use booked::{Booked, commit_all, commit_one};
 pub use booking::{Booking, Proof};
@@ -19,3 +21,4 @@ pub use fail_link::FailLink;
 pub use keeper::Keeper;
 pub use link::{Clock, Link, LinkFault, Links};
 pub use outcome::Outcome;
+pub use side::BalanceSide;

@@ -6,7 +6,7 @@ ghost use Rattle.st_queues.specs.Watching.{nothing_seen, no_totals, IsUpTo};
 
 use crate::name::HubName;
 use crate::table::{GaugeTable, RawSeat, look, open, put, set_stop, split};
-use crate::totals::Totals;
+use st_streams::EndTotals;
 use std::alloc::{AllocError, Allocator};
 use std::marker::{Model, PhantomData};
 use std::sync::Arc;
@@ -49,9 +49,9 @@ pub struct HubSeat<N: HubName<A>, A: Allocator + Copy> {
 impl<N: HubName<A>, A: Allocator + Copy> Model for HubSeat<N, A> {
     ghost use Rattle.std.specs.Prelude.{◌≡◌, length, true, false};
     ghost use Rattle.st_queues.specs.Watching.{totals_seen};
-    ghost use Rattle.st_queues.specs.declared.totals.Totals.{Totals};
+    ghost use Rattle.st_streams.specs.declared.totals.EndTotals.{EndTotals};
 
-    ghost Value = { Totals };
+    ghost Value = { EndTotals };
 
     ghost view = { λ s. totals_seen s.seat.me.0.seen };
 
@@ -61,7 +61,7 @@ impl<N: HubName<A>, A: Allocator + Copy> Model for HubSeat<N, A> {
 impl<N: HubName<A>, A: Allocator + Copy> Gauge<N, A> {
     /// The totals as published so far. Each is read on its own, and none is below what this seat saw before. Does not
     /// wait.
-    pub fn seen(&self, seat: &mut GaugeSeat<N, A>) -> Totals
+    pub fn seen(&self, seat: &mut GaugeSeat<N, A>) -> EndTotals
         ensures totals { result ≡ seat.new.totals }
         ensures rises { IsUpTo seat.old.totals seat.new.totals }
         ensures stop { (seat.new.stop ≡ seat.old.stop) × (seat.new.asked ≡ seat.old.asked) }
@@ -71,7 +71,7 @@ impl<N: HubName<A>, A: Allocator + Copy> Gauge<N, A> {
         let delivered = look(&self.table, seat, 2);
         let credited = look(&self.table, seat, 3);
         let paid = look(&self.table, seat, 4);
-        Totals {
+        EndTotals {
             accepted,
             delivered,
             credited,
@@ -109,7 +109,7 @@ impl<N: HubName<A>, A: Allocator + Copy> Gauge<N, A> {
     }
 
     /// Publishes the totals. Requires that none is below the one published last. Does not wait.
-    pub fn publish(&self, seat: &mut HubSeat<N, A>, totals: Totals)
+    pub fn publish(&self, seat: &mut HubSeat<N, A>, totals: EndTotals)
         requires { IsUpTo seat.old totals }
         ensures { seat.new ≡ totals }
     {

@@ -15,7 +15,6 @@ mod name;
 mod reader;
 mod rings;
 mod table;
-mod totals;
 mod writer;
 
 pub use ends::{ReadEnd, WriteEnd};
@@ -26,5 +25,5 @@ pub use lanes::{ReadRing, WriteRing};
 pub use name::HubName;
 pub use reader::StreamReader;
 pub use rings::{Named, ROOM, Rings, STREAMS, WRITERS};
-pub use totals::Totals;
+pub use st_streams::EndTotals as Totals;
 pub use writer::{MAX_CHUNK, StreamWriter};

@@ -4,8 +4,8 @@ use Rattle.std.specs.Option.{option_or}
 use Rattle.std.specs.declared.option.Option.{Option}
 use Rattle.std.specs.declared.option.Option.TheVariants.{None, Some}
 use Rattle.st_frames.specs.Frames.{Known, BlockedFrame, ConnectionDataBlocked, StreamMoneyBlocked, StreamDataBlocked}
-use Rattle.st_sender.specs.declared.notice.Blocked.{Blocked}
-use Rattle.st_sender.specs.declared.notice.Blocked.TheVariants as limits
+use Rattle.st_streams.specs.declared.blocked.Blocked.{Blocked}
+use Rattle.st_streams.specs.declared.blocked.Blocked.TheVariants as limits
 use Rattle.st_sender.specs.Sending.{SentFrame, Data, Whole, Flight}
 use Rattle.st_sender.specs.Flights.{flight_at}
 

@@ -8,6 +8,7 @@ ghost use Rattle.st_sender.specs.Shown.{telling};
 ghost use Rattle.st_sender.specs.Stops.{stops_at};
 
 use st_frames::Frame;
+use st_streams::Blocked;
 
 /// A frame about a limit (RFC 0029, section 5.3): a Blocked frame for a limit of the peer, which is sent in a packet of its
 /// own, or the value of a limit of this end.
@@ -39,27 +40,6 @@ pub enum Notice {
     },
     /// This end's receive max of a stream, and in `total` how much was received, in units of this end's asset.
     StreamMaxMoney {
-        stream: u64,
-        receive_max: u64,
-        total: u64,
-    },
-}
-
-/// A limit of the peer at which bytes or money of this end wait, as a Blocked frame reports it (RFC 0029, section 5.3).
-#[derive(Clone, Copy, Debug, PartialEq, Eq)]
-pub enum Blocked {
-    /// The limit on the sum of the streams' ends: ConnectionDataBlocked.
-    Connection {
-        max_offset: u64,
-    },
-    /// The limit on the offsets of a stream: StreamDataBlocked.
-    Data {
-        stream: u64,
-        max_offset: u64,
-    },
-    /// The receive max of a stream, in units of the peer's asset: StreamMoneyBlocked. `total` is how much of the
-    /// stream's money was fulfilled.
-    Money {
         stream: u64,
         receive_max: u64,
         total: u64,

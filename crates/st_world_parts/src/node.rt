@@ -13,50 +13,15 @@ use crate::lane::{Direction, SentAnswer, SentPrepare, mark_taken};
 use crate::side::Way;
 use crate::told::Told;
 use indexmap::IndexMap;
-use st_hop::{Account, HopError, HopState, Route, Ticket, Verdict, settlements_book};
+use st_hop::{Account, HopError, HopState, OpenTicket, Route, Ticket, Verdict, settlements_book};
 use st_ilp::Moment;
 use st_links::Outcome;
 use std::alloc::{AllocError, Allocator};
 use std::hash::{BuildHasherDefault, FoldHasher};
 use std::marker::Model;
 
-/// A ticket that waits for its answer. If its owner ends, it is abandoned.
-pub(crate) struct KeptTicket {
-    ticket: Ticket,
-}
-
-impl Model for KeptTicket {
-    ghost use Rattle.st_hop.specs.declared.ticket.Open as open_ticket;
-
-    ghost Value = { open_ticket.Open };
-
-    ghost view = { λ k. k.ticket };
-}
-
-impl Drop for KeptTicket {
-    fn drop(self) {
-        let KeptTicket { ticket } = self;
-        ticket.abandon();
-    }
-}
-
-impl KeptTicket {
-    fn new(ticket: Ticket) -> KeptTicket
-        ensures { result ≡ ticket }
-    {
-        KeptTicket { ticket }
-    }
-
-    fn spend(self) -> Ticket
-        ensures { result ≡ self }
-    {
-        let KeptTicket { ticket } = self;
-        ticket
-    }
-}
-
 /// Tickets that wait for their answers, each under its number.
-type Tickets<A> = IndexMap<u64, KeptTicket, BuildHasherDefault<FoldHasher>, A>;
+type Tickets<A> = IndexMap<u64, OpenTicket, BuildHasherDefault<FoldHasher>, A>;
 
 /// Keeps a ticket. There is room for it.
 fn keep_ticket<A: Allocator + Copy>(kept: &mut Tickets<A>, ticket: Ticket)
@@ -64,7 +29,7 @@ fn keep_ticket<A: Allocator + Copy>(kept: &mut Tickets<A>, ticket: Ticket)
     ensures { (n : ℕ) → get nat_eq kept.new n ≡ (if nat_eq ticket.number n then Some ticket else get nat_eq kept.old n) }
 {
     let number = ticket.read().number;
-    let _replaced = kept.insert(number, KeptTicket::new(ticket)).unwrap();
+    let _replaced = kept.insert(number, OpenTicket::new(ticket)).unwrap();
 }
 
 /// Takes out the ticket of a number.

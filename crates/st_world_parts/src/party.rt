@@ -1,6 +1,6 @@
 //! An end with its open flights and its answered Prepares.
 
-ghost use Rattle.std.specs.Prelude.{◌≡◌, ◌≢◌, ◌<◌, ℕ, true, false, OnErr, IfOk, IfSome, IsNone, MatchOption, Some, None, slice_get, nat_eq, bytes_eq, is_ok, ◌&&◌, IsOkUnless};
+ghost use Rattle.std.specs.Prelude.{◌≡◌, ◌≢◌, ◌<◌, ℕ, true, false, OnErr, IfOk, IfSome, IsNone, MatchOption, Some, None, slice_get, is_ok, IsOkUnless};
 ghost use Rattle.std.specs.List.{remove};
 ghost use Rattle.st_links.specs.Outcomes.{outcome_seen};
 ghost use Rattle.st_oer.specs.Address.{is_address};
@@ -11,7 +11,6 @@ ghost use Rattle.st_end.specs.Seen.{totals_seen};
 ghost use Rattle.st_end.specs.Totals as totals;
 ghost use Rattle.st_end.specs.Sending.{is_open};
 ghost use Rattle.st_world_parts.specs.State.{new_party};
-ghost use Rattle.st_end.specs.declared.flight.Open as open_flight;
 ghost use Rattle.st_world_parts.specs.Seen.{told_seen};
 ghost use Rattle.st_world_parts.specs.Kept.{AreKept};
 ghost use Rattle.st_world_parts.specs.Parts.{EndSends, EndMet, EndBack};
@@ -19,7 +18,7 @@ ghost use Rattle.st_world_parts.specs.Parts.{EndSends, EndMet, EndBack};
 use crate::entry::{AnsweredAtEnd, amount_in, is_fulfill};
 use crate::lane::{Direction, SentAnswer, SentPrepare, mark_taken};
 use crate::told::Told;
-use st_end::{EndError, EndState, Flight, Open, Role, Totals};
+use st_end::{EndError, EndState, Flight, Open, OpenFlight, Role, Totals};
 use st_ilp::Moment;
 use st_keys::Keys;
 use st_links::Outcome;
@@ -27,57 +26,8 @@ use st_sender::EndConfig;
 use std::alloc::{AllocError, Allocator};
 use std::marker::Model;
 
-/// A flight that waits for its answer. If its owner ends, it is abandoned.
-pub(crate) struct KeptFlight {
-    flight: Flight,
-}
-
-impl Model for KeptFlight {
-    ghost use Rattle.st_end.specs.declared.flight.Open as open_flight;
-
-    ghost Value = { open_flight.Open };
-
-    ghost view = { λ k. k.flight };
-}
-
-impl Drop for KeptFlight {
-    fn drop(self) {
-        let KeptFlight { flight } = self;
-        flight.abandon();
-    }
-}
-
-impl KeptFlight {
-    fn new(flight: Flight) -> KeptFlight
-        ensures { result ≡ flight }
-    {
-        KeptFlight { flight }
-    }
-
-    /// Whether it is this one.
-    fn is(&self, wanted: &Open) -> bool
-        ensures { result ≡ (nat_eq self.now.sequence wanted.now.sequence && bytes_eq self.now.condition wanted.now.condition) }
-    {
-        let open = self.flight.read();
-        open.sequence == wanted.sequence && open.condition == wanted.condition
-    }
-
-    fn is_open<A: Allocator + Copy>(&self, state: &EndState<A>) -> bool
-        ensures { result ≡ is_open state.now self.now }
-    {
-        state.is_open(&self.flight)
-    }
-
-    fn spend(self) -> Flight
-        ensures { result ≡ self }
-    {
-        let KeptFlight { flight } = self;
-        flight
-    }
-}
-
 /// The index of a flight.
-fn place_of(kept: &[KeptFlight], wanted: Open) -> Option<usize>
+fn place_of(kept: &[OpenFlight], wanted: Open) -> Option<usize>
     ensures found { IfSome result (λ i. slice_get kept.now i ≡ Some wanted) }
     ensures absent { IsNone result → (i : ℕ) → slice_get kept.now i ≢ Some wanted }
 {
@@ -92,7 +42,7 @@ fn place_of(kept: &[KeptFlight], wanted: Open) -> Option<usize>
 /// Whether the flight at this place is open at the end.
 fn is_open_at<A: Allocator + Copy>(
     state: &EndState<A>,
-    kept: &[KeptFlight],
+    kept: &[OpenFlight],
     place: usize,
     wanted: Open,
 ) -> bool
@@ -105,7 +55,7 @@ fn is_open_at<A: Allocator + Copy>(
 /// The index of an open flight.
 fn open_place<A: Allocator + Copy>(
     state: &EndState<A>,
-    kept: &[KeptFlight],
+    kept: &[OpenFlight],
     wanted: Open,
 ) -> Option<usize>
     requires { AreKept state.now.conditions kept.now }
@@ -120,7 +70,7 @@ fn open_place<A: Allocator + Copy>(
 }
 
 /// Takes out the flight of a place.
-fn take_flight<A: Allocator>(kept: &mut Vec<KeptFlight, A>, place: usize, wanted: Open) -> Flight
+fn take_flight<A: Allocator>(kept: &mut Vec<OpenFlight, A>, place: usize, wanted: Open) -> Flight
     requires { slice_get kept.old.items place ≡ Some wanted }
     ensures taken { result ≡ wanted }
     ensures rest { kept.new.items ≡ remove kept.old.items place }
@@ -133,7 +83,7 @@ fn take_flight<A: Allocator>(kept: &mut Vec<KeptFlight, A>, place: usize, wanted
 #[derive(Drop)]
 pub struct Party<A: Allocator + Copy> {
     pub(crate) state: EndState<A>,
-    kept: Vec<KeptFlight, A>,
+    kept: Vec<OpenFlight, A>,
     answered: Vec<AnsweredAtEnd, A>,
     alloc: A,
 }
@@ -227,7 +177,7 @@ pub fn send_from<A: Allocator + Copy>(
     match party.state.send(iv, now) {
         Ok(Some((flight, bytes))) => {
             let put = SentPrepare::of_flight(&flight.read(), bytes);
-            party.kept.push(KeptFlight::new(flight)).unwrap();
+            party.kept.push(OpenFlight::new(flight)).unwrap();
             lane.prepares.push(put).unwrap();
             Ok(Told::Sent)
         }

@@ -64,7 +64,7 @@ fn a_message_makes_no_second_line(rt: HostRuntime) {
 /// An end that waits at a receive max of 500 units, of which it paid 499.
 #[test]
 fn a_limit_has_its_stream(rt: HostRuntime) {
-    let event = Event::Waits(Blocked::StreamMoney {
+    let event = Event::Waits(Blocked::Money {
         stream: 1,
         receive_max: 500,
         total: 499,
@@ -104,7 +104,7 @@ fn a_line_has_the_limit_and_the_time_left(rt: HostRuntime) {
         gained: 10,
         millis: 1_000,
         units: 500,
-        waits: Some(Blocked::StreamMoney {
+        waits: Some(Blocked::Money {
             stream: 1,
             receive_max: 500,
             total: 500,
@@ -154,7 +154,7 @@ fn a_failed_write_is_made_again(rt: HostRuntime) {
             &rt,
             moment,
             0,
-            &Event::Waits(Blocked::ConnectionData { limit: 7 }),
+            &Event::Waits(Blocked::Connection { max_offset: 7 }),
         );
         sure!(&rt; journal.has_failed());
         journal.note(&rt, moment, 0, &cut());
