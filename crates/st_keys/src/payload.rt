@@ -33,9 +33,12 @@ fn tag_of(payload: &[u8]) -> [u8; 16]
     tag
 }
 
-/// A vector with room for an IV and a tag, followed by a packet. Its memory is requested at once.
+/// A payload that is not sealed yet (RFC 0029): room for an IV and a tag, of `OVERHEAD` bytes, and then the packet.
+/// `Keys::seal_payload` seals it. Its memory is requested once, and no other.
+///
+/// Fails with `FrameFormat`, `TooLong` and `NoMemory`, as `Keys::seal_packet` does. Requires a `kind` of 12, 13 or 14.
 #[tactic(auto, using(crate::proofs::Written::size_found))]
-fn with_overhead<A: Allocator>(
+pub fn plain_payload<A: Allocator>(
     alloc: A,
     kind: u8,
     sequence: u64,
@@ -92,14 +95,15 @@ impl Keys {
         ensures fits { OnOk result (AllFit (map seen frames.now)) }
         ensures opens { IfOk result (λ payload. opened self.now kind payload.items ≡ Ok (packet_with kind sequence amount (map seen frames.now))) }
     {
-        let mut payload = with_overhead(alloc, kind, sequence, amount, frames)?;
+        let mut payload = plain_payload(alloc, kind, sequence, amount, frames)?;
         self.seal_payload(iv, &mut payload);
         Ok(payload)
     }
 
-    /// Encrypts a text in place, from byte `OVERHEAD` on, and writes IV and tag in front of it.
+    /// Encrypts a payload in place: its bytes from `OVERHEAD` on are the plain text. IV and tag are written in front of
+    /// it. No two texts may be sealed under the same IV. Does not allocate.
     #[tactic(auto, unfolding(crate::specs::Sealed::sealed, crate::specs::Sealed::payload_of), using(std::proofs::Common::append_assoc))]
-    fn seal_payload(&self, iv: [u8; 12], payload: &mut [u8])
+    pub fn seal_payload(&self, iv: [u8; 12], payload: &mut [u8])
         requires { OVERHEAD ≤ length payload.old }
         ensures { payload.new ≡ sealed self.now iv (ciphertext_of payload.old) }
     {

@@ -3,7 +3,7 @@ use Rattle.std.proofs.lemmas.Result.{err_from_is_err_and}
 use Rattle.st_frames.specs.Seen.{seen}
 use Rattle.st_frames.specs.Written.{written}
 use Rattle.st_keys.proofs.Written.{writable, size_below, size_refused}
-use Rattle.st_keys.proofs.payload.with_overhead.Goals as goal
+use Rattle.st_keys.proofs.payload.plain_payload.Goals as goal
 
 pub returns-in_err-length-clause-written : goal.returns-in_err-length-clause-written
 returns-in_err-length-clause-written g c =
