@@ -1,16 +1,9 @@
 //! The keys of a STREAM connection and its encrypted packets (RFC 0029): the data field of an ILP packet.
 //!
-<<<<<<< ours
-//! `Keys` derives all keys from the shared secret. `seal_packet` gives the payload of one packet. `open_packet`
-//! decrypts a payload in place and reads its packet. `fulfillment` and `condition` give those of a payload, and
-//! `fulfillments` gives those of up to eight.
-//! `KeyError::number` is the number of an error, and `KeyError::inner` that of the packet's error.
-=======
 //! `Keys` derives all keys from the shared secret. `seal_packet` gives the payload of one packet: `plain_payload`,
 //! and then `seal_payload` in place. `open_packet` decrypts a payload in place and reads its packet. `fulfillment` and
-//! `condition` give those of a payload. `KeyError::number` is the number of an error, and `KeyError::inner` that of the
-//! packet's error.
->>>>>>> theirs
+//! `condition` give those of a payload, and `fulfillments` gives those of up to eight.
+//! `KeyError::number` is the number of an error, and `KeyError::inner` that of the packet's error.
 #![tactic(auto)]
 
 mod error;
