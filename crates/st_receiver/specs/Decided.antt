@@ -5,8 +5,8 @@ use Rattle.st_receiver.specs.declared.reason.Reason.TheVariants.{NoMemory}
 use Rattle.st_receiver.specs.declared.intake.Decision.{Decision}
 use Rattle.st_receiver.specs.declared.intake.Decision.TheVariants.{Fulfill, Reject}
 use Rattle.st_receiver.specs.declared.intake.Plan.{Plan}
-use Rattle.st_receiver.specs.declared.got.Got.{Got}
-use Rattle.st_receiver.specs.declared.got.Got.TheVariants.{Bytes, Nothing, End, Aborted}
+use Rattle.st_streams.specs.declared.stream_read.StreamRead.{StreamRead}
+use Rattle.st_streams.specs.declared.stream_read.StreamRead.TheVariants.{Bytes, Nothing, End, Aborted}
 use Rattle.st_receiver.specs.Reading as reading
 use Rattle.st_receiver.specs.Reasons.{code_of}
 use Rattle.st_receiver.specs.Streams.{Receiving}
@@ -29,7 +29,7 @@ abbrev pub state_by : Receiving → Packet → Option Plan → Receiving
 state_by r p None = r
 state_by r p (Some plan) = effect r p plan.amount
 
-abbrev pub got_seen : {X : Type 0} → Got X → reading.Got
+abbrev pub got_seen : {X : Type 0} → StreamRead X → reading.Got
 got_seen (Bytes bytes) = reading.Bytes bytes.items
 got_seen Nothing = reading.Nothing
 got_seen End = reading.End
