@@ -297,7 +297,7 @@ def check_lemmas(count):
     count.check(f"the proofs of {len(crates)} crates cite lemmas" in text, f"{where}: {len(crates)} crates cite lemmas")
     program = repository.with_below("ilpstream", repository.read_crates())
     count.check(f"**The {len(program)} crates of the program**" in text, f"{where}: the program has {len(program)} crates")
-    found = re.search(r"\*\*The \d+ crates of the program\*\*.*?(?=\*\*Laws alone)", text)
+    found = re.search(r"\*\*The \d+ crates of the program\*\*.*?(?=\*\*Types and laws)", text)
     count.same(where, set(re.findall(rf"{CRATE}|\bilpstream\b", found.group(0) if found else "")), set(program), "crates.txt (crates of the program)")
 
 

@@ -41,6 +41,5 @@ pub use role::Role;
 pub use st_ilp::Moment;
 pub use st_keys::Keys;
 pub use st_oer::{Rate, is_address};
-pub use st_receiver::Got;
 pub use st_sender::{Blocked, EndConfig};
-pub use st_streams::EndTotals as Totals;
+pub use st_streams::{EndTotals as Totals, StreamRead as Got};

@@ -14,9 +14,8 @@ ghost use Rattle.st_end.specs.Totals as totals;
 use crate::end::EndState;
 use crate::error::EndError;
 use crate::flight::Flight;
-use st_receiver::Got;
 use st_sender::Blocked;
-use st_streams::EndTotals;
+use st_streams::{EndTotals, StreamRead};
 use std::alloc::Allocator;
 
 /// A count as it is reported.
@@ -101,7 +100,7 @@ impl<A: Allocator + Copy> EndState<A> {
     /// there are none, it gives `End` once all bytes were read, else `Nothing`. After an abort it gives `Aborted` with
     /// the code. No read gives more than 65,536 bytes, a stream's window. Fails with `NoStream` if the stream is not
     /// open, and with `NoMemory` if memory is refused. Nothing has changed then.
-    pub fn read(&mut self, stream: u8, max: usize) -> Result<Got<A>, EndError>
+    pub fn read(&mut self, stream: u8, max: usize) -> Result<StreamRead<A>, EndError>
         requires { 1 ≤ max }
         ensures answers { OrWants self.old (reading.read self.old stream max) (read_seen result, self.new) }
         ensures few { IfOk result (λ g. got_count (got_seen g) ≤ 65536) }

@@ -7,8 +7,8 @@ use Rattle.st_queues.specs.declared.items.Item.{Item}
 use Rattle.st_queues.specs.declared.items.Item.TheVariants as item
 use Rattle.st_queues.specs.declared.items.Delivery.{Delivery}
 use Rattle.st_queues.specs.declared.items.Delivery.TheVariants as delivery
-use Rattle.st_queues.specs.declared.items.Got.{Got}
-use Rattle.st_queues.specs.declared.items.Got.TheVariants.{Bytes, Nothing, End, Aborted}
+use Rattle.st_streams.specs.declared.stream_read.StreamRead.{StreamRead}
+use Rattle.st_streams.specs.declared.stream_read.StreamRead.TheVariants.{Bytes, Nothing, End, Aborted}
 use Rattle.st_queues.specs.declared.items.Over.{Over}
 use Rattle.st_queues.specs.declared.items.Over.TheVariants as over
 use Rattle.st_file.specs.Rings.{given_by, taken_by}
@@ -56,7 +56,7 @@ module _ {A : Type 0} where
   again : (a b : Read A) (o : Over) → a.over ≡ o → b ≡ a → given_by b ≡ record { bytes = delivered a.items; over = o; calls = None }
   again a b o is same = rw same (given_eq (delivered a.items) (delivered a.items) a.over o refl is)
 
-  pub next_given : (a b : Read A) (got : Got A) → ReadsAs a b got → Gives (given_by a) (given_by b) got
+  pub next_given : (a b : Read A) (got : StreamRead A) → ReadsAs a b got → Gives (given_by a) (given_by b) got
   next_given a b (Bytes v) h = given_eq (delivered b.items) (delivered a.items ++ v.items) b.over over.Open
       (ap delivered h.1 ∙ delivered_sum a.items (delivery.Bytes v ∷ []) ∙ ap (λ l. delivered a.items ++ l) (append-nil v.items)) h.3
   next_given a b Nothing h = given_eq (delivered b.items) (delivered a.items) b.over over.Open (ap delivered h.1) h.4

@@ -1,7 +1,7 @@
 -- What a source gave.
 use Rattle.std.specs.Prelude.{◌≡◌, ℕ, List, ◌++◌, Option}
-use Rattle.st_queues.specs.declared.items.Got.{Got}
-use Rattle.st_queues.specs.declared.items.Got.TheVariants.{Bytes, Nothing, End, Aborted}
+use Rattle.st_streams.specs.declared.stream_read.StreamRead.{StreamRead}
+use Rattle.st_streams.specs.declared.stream_read.StreamRead.TheVariants.{Bytes, Nothing, End, Aborted}
 use Rattle.st_queues.specs.declared.items.Over.{Over}
 use Rattle.st_queues.specs.declared.items.Over.TheVariants as over
 use Rattle.st_file.specs.Sinks.{calls_after}
@@ -14,7 +14,7 @@ pub record Given : Type 0 where
   pub calls : Option ℕ
 
 -- what a source gave at one call
-abbrev pub Gives : {A : Type 0} → Given → Given → Got A → Type 0
+abbrev pub Gives : {A : Type 0} → Given → Given → StreamRead A → Type 0
 Gives old new (Bytes v) = new ≡ record { bytes = old.bytes ++ v.items; over = over.Open; calls = calls_after 1 old.calls }
 Gives old new Nothing = new ≡ record { bytes = old.bytes; over = over.Open; calls = calls_after 1 old.calls }
 Gives old new End = new ≡ record { bytes = old.bytes; over = over.Ended; calls = calls_after 1 old.calls }

@@ -5,11 +5,11 @@ ghost use Rattle.st_http.specs.Texts as texts;
 
 use crate::texts::is_field_text;
 
-/// A neighbour: where it is reached, written HOST:PORT, and the bearer token by which it knows this side (RFC 0035). Both
+/// A neighbour: its address, written HOST:PORT, and the bearer token by which it knows this side (RFC 0035). Both
 /// texts may be written in a request.
 #[derive(Clone, Copy, Debug)]
 pub struct Neighbour<'a> {
-    /// Where the neighbour is reached, written HOST:PORT: 1 to 255 visible characters.
+    /// The neighbour's address, written HOST:PORT: 1 to 255 visible characters.
     pub host: &'a str,
     /// The bearer token by which the neighbour knows this side: 1 to 255 visible characters.
     pub token: &'a str,

@@ -4,7 +4,7 @@
 //! An exchange over a `Link` has an `Outcome`. The order of a connector is: the booking is stored, then the ticket is
 //! settled, then the Fulfill is passed on. Only `commit_all` and `commit_one` make a token, `Booked`, and only after
 //! the books' commit. The caller that settles a ticket passes its token by value. A `BalanceSide` says which amount of an account
-//! a booking by hand changes.
+//! a manual booking changes.
 #![tactic(auto)]
 
 mod booked;

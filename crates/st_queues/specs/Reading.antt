@@ -5,8 +5,8 @@ use Rattle.st_queues.specs.declared.items.Delivery.{Delivery}
 use Rattle.st_queues.specs.declared.items.Delivery.TheVariants as delivery
 use Rattle.st_queues.specs.declared.items.Over.{Over}
 use Rattle.st_queues.specs.declared.items.Over.TheVariants as over
-use Rattle.st_queues.specs.declared.items.Got.{Got}
-use Rattle.st_queues.specs.declared.items.Got.TheVariants.{Bytes, Nothing, End, Aborted}
+use Rattle.st_streams.specs.declared.stream_read.StreamRead.{StreamRead}
+use Rattle.st_streams.specs.declared.stream_read.StreamRead.TheVariants.{Bytes, Nothing, End, Aborted}
 
 -- what a reader shows: the place of its stream, what it read, oldest first, what it knows to be in the ring, and whether it has seen an end
 pub record Read (A : Type 0) : Type 0 where
@@ -29,7 +29,7 @@ module _ {A : Type 0} where
   Again a b o = (a.over ≡ o) × (b ≡ a)
 
   -- the result of a read is the next item, or the end that was reported before
-  abbrev pub ReadsAs : Read A → Read A → Got A → Type 0
+  abbrev pub ReadsAs : Read A → Read A → StreamRead A → Type 0
   ReadsAs a b (Bytes v) = Takes a b (delivery.Bytes v) over.Open
   ReadsAs a b Nothing = (a.over ≡ over.Open) × (b.items ≡ a.items) × (a.known ≡ []) × (b.known ≡ []) × (b.over ≡ over.Open)
   ReadsAs a b End = Takes a b delivery.End over.Ended ⊎ Again a b over.Ended

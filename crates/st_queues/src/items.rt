@@ -21,19 +21,6 @@ pub enum Delivery<A: Allocator + Copy> {
     Aborted(u64),
 }
 
-/// The result of a read.
-#[derive(Drop)]
-pub enum Got<A: Allocator + Copy> {
-    /// The next bytes of the stream.
-    Bytes(Vec<u8, A>),
-    /// Nothing is available yet.
-    Nothing,
-    /// The stream was closed cleanly, and all of its bytes were read.
-    End,
-    /// The stream was aborted, with this code.
-    Aborted(u64),
-}
-
 /// Whether a reader has read an end, and which.
 #[derive(Clone, Copy)]
 pub enum Over {

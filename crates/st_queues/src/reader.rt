@@ -5,9 +5,10 @@ ghost use Rattle.st_queues.specs.Names.{consumer_ring};
 ghost use Rattle.st_queues.specs.Reading.{ReadsAs};
 ghost use Rattle.st_queues.specs.declared.items.Over.TheVariants.{Open};
 
-use crate::items::{Delivery, Got, Over};
+use crate::items::{Delivery, Over};
 use crate::name::HubName;
 use rtrb::Consumer;
+use st_streams::StreamRead;
 use std::alloc::Allocator;
 use std::marker::{Model, PhantomData};
 
@@ -51,26 +52,26 @@ impl<N: HubName<A>, A: Allocator + Copy> StreamReader<N, A> {
 
     /// The next item that the hub delivered: bytes or an end. After an end it gives the same end again. Does not
     /// allocate and does not wait.
-    pub fn try_read(&mut self) -> Got<A>
+    pub fn try_read(&mut self) -> StreamRead<A>
         ensures stream { self.new.stream ≡ self.old.stream }
         ensures read { ReadsAs self.old self.new result }
     {
         match self.over {
             Over::Open => {}
-            Over::Ended => return Got::End,
-            Over::Aborted(code) => return Got::Aborted(code),
+            Over::Ended => return StreamRead::End,
+            Over::Aborted(code) => return StreamRead::Aborted(code),
         }
         match self.consumer.pop() {
-            Ok(Delivery::Bytes(bytes)) => Got::Bytes(bytes),
+            Ok(Delivery::Bytes(bytes)) => StreamRead::Bytes(bytes),
             Ok(Delivery::End) => {
                 self.over = Over::Ended;
-                Got::End
+                StreamRead::End
             }
             Ok(Delivery::Aborted(code)) => {
                 self.over = Over::Aborted(code);
-                Got::Aborted(code)
+                StreamRead::Aborted(code)
             }
-            Err(_) => Got::Nothing,
+            Err(_) => StreamRead::Nothing,
         }
     }
 

@@ -5,8 +5,8 @@ use Rattle.st_receiver.specs.declared.reason.Reason.TheVariants.{NoMemory}
 use Rattle.st_receiver.specs.declared.intake.Decision.{Decision}
 use Rattle.st_receiver.specs.declared.intake.Decision.TheVariants.{Fulfill, Reject}
 use Rattle.st_receiver.specs.declared.intake.Plan.{Plan}
-use Rattle.st_receiver.specs.declared.got.Got.{Got}
-use Rattle.st_receiver.specs.declared.got.Got.TheVariants.{Bytes, Nothing, End, Aborted}
+use Rattle.st_streams.specs.declared.stream_read.StreamRead.{StreamRead}
+use Rattle.st_streams.specs.declared.stream_read.StreamRead.TheVariants.{Bytes, Nothing, End, Aborted}
 use Rattle.st_receiver.specs.Reading as reading
 use Rattle.st_receiver.specs.Reasons.{code_of}
 use Rattle.st_receiver.specs.Streams.{Receiving}
@@ -34,7 +34,7 @@ state_by r p (Some plan) = effect r p plan.amount
 abbrev pub limits_in_reply : Receiving → Packet → Option Plan → List Known
 limits_in_reply r p plan = reply_frames (state_by r p plan) (frames_of p)
 
-abbrev pub got_seen : {X : Type 0} → Got X → reading.Got
+abbrev pub got_seen : {X : Type 0} → StreamRead X → reading.Got
 got_seen (Bytes bytes) = reading.Bytes bytes.items
 got_seen Nothing = reading.Nothing
 got_seen End = reading.End

@@ -7,10 +7,10 @@ ghost use Rattle.st_receiver.specs.Reading.{got, got_count, after_got};
 ghost use Rattle.st_receiver.specs.Decided.{got_seen};
 
 use crate::apply::drawn;
-use crate::got::Got;
 use crate::incoming::Incoming;
 use crate::intake::Intake;
 use crate::reason::Reason;
+use st_streams::StreamRead;
 use std::alloc::Allocator;
 
 /// What a stream was credited.
@@ -137,7 +137,7 @@ impl<A: Allocator + Copy> Intake<A> {
     /// Reads the first bytes that can be read on an open stream, at most `max` of them. If there are none, it gives
     /// `End` once all bytes were read, else `Nothing`. After an abort it gives `Aborted` with the code. Fails with
     /// `NoMemory` if memory is refused, and then nothing has changed.
-    pub fn read(&mut self, stream: u64, max: usize) -> Result<Got<A>, Reason>
+    pub fn read(&mut self, stream: u64, max: usize) -> Result<StreamRead<A>, Reason>
         requires { is_open self.old.state stream ≡ true }
         ensures only_memory { IsOkUnless result Reason.NoMemory }
         ensures got { IfOk result (λ g. got_seen g ≡ got max (incoming_at self.old.state stream).held) }

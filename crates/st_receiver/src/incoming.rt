@@ -13,9 +13,9 @@ ghost use Rattle.st_receiver.specs.Reading.{Bytes, is_read, got_count, got_none,
 ghost use Rattle.st_receiver.specs.Ready.{is_some_got};
 ghost use Rattle.st_receiver.specs.Decided.{got_seen};
 
-use crate::got::Got;
 use crate::reason::Reason;
 use st_reassembly::{Inbox, InboxError};
+use st_streams::StreamRead;
 use std::alloc::Allocator;
 use std::marker::Model;
 
@@ -198,19 +198,19 @@ impl<A: Allocator + Copy> Incoming<A> {
     }
 
     /// What can be reported if no byte can be read.
-    fn get_none(&self) -> Got<A>
+    fn get_none(&self) -> StreamRead<A>
         ensures told { got_seen result ≡ got_none self.now.held }
         ensures none { got_count (got_seen result) ≡ 0 }
     {
         if self.is_read() {
-            Got::End
+            StreamRead::End
         } else {
-            Got::Nothing
+            StreamRead::Nothing
         }
     }
 
     /// The first bytes of the run, if there are any.
-    fn get_some(&mut self, max: usize) -> Result<Got<A>, Reason>
+    fn get_some(&mut self, max: usize) -> Result<StreamRead<A>, Reason>
         ensures only_memory { IsOkUnless result Reason.NoMemory }
         ensures got { IfOk result (λ g. got_seen g ≡ Bytes (take max (run self.old.held))) }
         ensures few { IfOk result (λ g. got_count (got_seen g) ≤ 65536) }
@@ -218,7 +218,7 @@ impl<A: Allocator + Copy> Incoming<A> {
         ensures unchanged { OnErr result (self.new ≡ self.old) }
     {
         match self.inbox.take(max) {
-            Ok(bytes) => Ok(Got::Bytes(bytes)),
+            Ok(bytes) => Ok(StreamRead::Bytes(bytes)),
             Err(_) => Err(Reason::NoMemory),
         }
     }
@@ -237,7 +237,7 @@ impl<A: Allocator + Copy> Incoming<A> {
     }
 
     /// A read, of at most `max` bytes.
-    pub(crate) fn get(&mut self, max: usize) -> Result<Got<A>, Reason>
+    pub(crate) fn get(&mut self, max: usize) -> Result<StreamRead<A>, Reason>
         ensures only_memory { IsOkUnless result Reason.NoMemory }
         ensures got { IfOk result (λ g. got_seen g ≡ got max self.old.held) }
         ensures few { IfOk result (λ g. got_count (got_seen g) ≤ 65536) }
@@ -245,7 +245,7 @@ impl<A: Allocator + Copy> Incoming<A> {
         ensures unchanged { OnErr result (self.new ≡ self.old) }
     {
         if let Some(code) = self.inbox.abort_code() {
-            return Ok(Got::Aborted(code));
+            return Ok(StreamRead::Aborted(code));
         }
         if self.inbox.run_length().min(max) == 0 {
             return Ok(self.get_none());

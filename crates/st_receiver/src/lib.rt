@@ -14,7 +14,6 @@ mod asking;
 mod closing;
 mod commit;
 mod decide;
-mod got;
 mod incoming;
 mod intake;
 mod judge;
@@ -26,8 +25,8 @@ mod reply;
 mod sequences;
 mod telling;
 
-pub use got::Got;
 pub use intake::{Decision, Intake, Plan};
 pub use laws::{clean_close_ends_at_highest, every_step_is_lawful, parts_add_up};
 pub use reason::Reason;
 pub use st_frames::{Frame, Frames, StreamPacket};
+pub use st_streams::StreamRead as Got;

@@ -4,7 +4,7 @@ use std::alloc::Allocator;
 
 /// The result of a read of a stream.
 #[derive(Drop)]
-pub enum Got<A: Allocator + Copy> {
+pub enum StreamRead<A: Allocator + Copy> {
     /// The first bytes that were not read yet, at least one.
     Bytes(Vec<u8, A>),
     /// No byte can be read yet.
