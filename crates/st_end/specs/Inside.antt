@@ -7,7 +7,7 @@ use Rattle.st_ilp.specs.declared.error.IlpError.{IlpError}
 use Rattle.st_ilp.specs.Packets.{PreparePacket}
 use Rattle.st_ilp.specs.Spelling.{prepare_kind, fulfill_kind, prepare_text, answer_text}
 use Rattle.st_ilp.specs.Laws.{IsPrepare}
-use Rattle.st_frames.specs.Frames.{Packet, frames_of, max_packet}
+use Rattle.st_frames.specs.Frames.{Packet, frames_of, max_packet, Known}
 use Rattle.st_frames.specs.Written.{is_unwritable, packet_length}
 use Rattle.st_keys.specs.Keys.{DerivedKeys, fulfillment, condition}
 use Rattle.st_keys.specs.Sealed.{sealed_packet}
@@ -37,6 +37,14 @@ IsBack bytes Unreadable = (fault : IlpError) × (answer_at bytes ≡ Err fault)
 -- what the sending side has once a packet took effect that leaves r
 abbrev pub taken_by : Sending → Receiving → Packet → Sending
 taken_by s r p = all_marked (reply_frames r (frames_of p)) (after_all_told (opened_too r s) (frames_of p)) (frames_of p)
+
+-- the same with the frames of the reply that is sent
+abbrev pub taken_with : (reply : List Known) → Sending → Receiving → Packet → Sending
+taken_with reply s r p = all_marked reply (after_all_told (opened_too r s) (frames_of p)) (frames_of p)
+
+-- the Fulfill of a packet that took effect at r with this amount
+abbrev pub fulfill_text : DerivedKeys → PreparePacket → Packet → Receiving → (amount : ℕ) → List ℕ
+fulfill_text keys q p r amount = answer_text (Fulfilled (fulfillment keys q.payload) (reply_payload keys fulfill_kind q p (effect r p amount)))
 
 -- what became of a packet, and what it left of both sides
 abbrev pub IsJudged : {X : Type 0} → DerivedKeys → PreparePacket → Packet → Sending → Receiving → Sending → Receiving → Judged X → Type 0

@@ -186,6 +186,10 @@ pub record Received : Type 0 where
 abbrev pub received_as : EndState → PreparePacket → Verdict → Received × EndState
 received_as e q v = (record { bytes = answer_text (answer_for e q v); reason = reason_of v; amount = q.amount; sequence = sequence_of v }, after_verdict e v)
 
+-- the answer and the end after a Prepare whose payload was opened so
+abbrev pub received_opened : EndState → PreparePacket → Result Packet KeyError → Received × EndState
+received_opened e q opened = received_as e q (opened_as e q opened)
+
 -- the answer and the end after bytes that came
 abbrev pub received : EndState → (bytes : List ℕ) → (now : ℤ) → Received × EndState
 received e bytes now = received_as e (prepare_in bytes) (verdict e bytes now)

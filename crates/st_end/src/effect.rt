@@ -1,14 +1,14 @@
 //! What a fulfilled packet changes at the sending side.
 
 ghost use Rattle.std.specs.Prelude.{◌≡◌, ◌<◌, ◌∷◌, [], ℕ, List, map};
-ghost use Rattle.st_frames.specs.Frames.{frame_of, frames_of};
+ghost use Rattle.st_frames.specs.Frames.{frame_of};
 ghost use Rattle.st_frames.specs.Packets.{packet_of};
 ghost use Rattle.st_frames.specs.Seen.{seen};
-ghost use Rattle.st_sender.specs.Answering.{after_all_told};
 ghost use Rattle.st_receiver.specs.Judged.{effect};
 ghost use Rattle.st_receiver.specs.Decided.{IsPlanFor};
 ghost use Rattle.st_end.specs.Receiving as receiving;
 ghost use Rattle.st_end.specs.Seen.{address_or};
+ghost use Rattle.st_end.specs.Inside.{taken_with};
 
 use crate::back::raise_all;
 use st_frames::{Frame, Frames, StreamPacket};
@@ -127,7 +127,8 @@ pub(crate) fn take_effect<A: Allocator + Copy>(
 )
     requires plan { IsPlanFor intake.old (packet_of packet.now) plan }
     ensures received { intake.new.state ≡ effect intake.old.state (packet_of packet.now) plan.amount }
-    ensures sends { outbox.new ≡ receiving.all_marked (map seen reply.now) (after_all_told (receiving.opened_too (effect intake.old.state (packet_of packet.now) plan.amount) outbox.old) (frames_of (packet_of packet.now))) (frames_of (packet_of packet.now)) }
+    ensures sends { outbox.new ≡ taken_with (map seen reply.now)
+        outbox.old (effect intake.old.state (packet_of packet.now) plan.amount) (packet_of packet.now) }
 {
     intake.commit(packet, plan);
     open_too(outbox, intake);

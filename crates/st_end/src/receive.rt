@@ -1,10 +1,9 @@
 //! The answer of an end to bytes that arrived.
 
 ghost use Rattle.std.specs.Prelude.{◌≡◌, ◌≤◌, ℕ, List, true, length, map, string_bytes, Ok, Err, None, Some, IfOk, OnErr, IsOkUnless};
-ghost use Rattle.st_ilp.specs.Packets.{Fulfilled};
 ghost use Rattle.st_ilp.specs.Rules.{is_code};
 ghost use Rattle.st_ilp.specs.Seen.{prepare_seen};
-ghost use Rattle.st_ilp.specs.Spelling.{answer_text, prepare_kind};
+ghost use Rattle.st_ilp.specs.Spelling.{prepare_kind};
 ghost use Rattle.st_frames.specs.Frames.{frames_of};
 ghost use Rattle.st_frames.specs.Packets.{packet_of};
 ghost use Rattle.st_frames.specs.Seen.{seen};
@@ -14,9 +13,9 @@ ghost use Rattle.st_receiver.specs.Decided.{IsPlanFor};
 ghost use Rattle.st_receiver.specs.Judged.{effect};
 ghost use Rattle.st_receiver.specs.Limits as limits;
 ghost use Rattle.st_end.specs.Receiving as receiving;
-ghost use Rattle.st_end.specs.Receiving.{Unread, Rejects, is_own_condition, received_as, opened_as, verdict_on, received, no_prepare, f01};
+ghost use Rattle.st_end.specs.Receiving.{Unread, Rejects, is_own_condition, received_as, verdict_on, received, no_prepare, f01, received_opened};
 ghost use Rattle.st_end.specs.Seen.{received_seen, text_or};
-ghost use Rattle.st_end.specs.Inside.{IsJudged};
+ghost use Rattle.st_end.specs.Inside.{IsJudged, fulfill_text};
 ghost use Rattle.st_end.specs.Opened.{IsPayloadOf, IsOpenedBy};
 
 use crate::back::raise_all;
@@ -58,7 +57,7 @@ fn fulfill_reply<'f, A: Allocator + Copy>(
     ensures only_memory { IsOkUnless result EndError.NoMemory }
     ensures frames { IfOk result (λ r. map seen r.frames.items
         ≡ limits.reply_frames (effect intake.now.state (packet_of packet.now) plan.now.amount) (frames_of (packet_of packet.now))) }
-    ensures text { IfOk result (λ r. r.bytes.items ≡ answer_text (Fulfilled (fulfillment keys.now prepare.now.payload.now) (receiving.reply_payload keys.now 13 (prepare_seen prepare.now) (packet_of packet.now) (effect intake.now.state (packet_of packet.now) plan.now.amount)))) }
+    ensures text { IfOk result (λ r. r.bytes.items ≡ fulfill_text keys.now (prepare_seen prepare.now) (packet_of packet.now) intake.now.state plan.now.amount) }
     ensures peer { IfOk result (λ r. (peer : List ℕ) → text_or peer r.peer ≡ receiving.new_peer peer (frames_of (packet_of packet.now))) }
 {
     let Ok(frames) = intake.reply_frames(packet, Some(plan)) else {
@@ -100,7 +99,8 @@ fn judge_packet<A: Allocator + Copy>(
     requires preimage { preimage ≡ fulfillment keys.now prepare.now.payload.now }
     requires long { 12 ≤ length prepare.now.payload.now }
     ensures only_memory { IsOkUnless result EndError.NoMemory }
-    ensures judged { IfOk result (λ j. IsJudged keys.now (prepare_seen prepare.now) (packet_of packet.now) outbox.old intake.old.state outbox.new intake.new.state j) }
+    ensures judged { IfOk result (λ j. IsJudged keys.now (prepare_seen prepare.now) (packet_of packet.now)
+        outbox.old intake.old.state outbox.new intake.new.state j) }
     ensures unchanged { OnErr result ((outbox.new ≡ outbox.old) × (intake.new.state ≡ intake.old.state)) }
 {
     match intake.judge(packet, prepare.amount) {
@@ -192,7 +192,7 @@ impl<A: Allocator + Copy> EndState<A> {
         requires preimage { preimage ≡ fulfillment self.old.keys prepare.now.payload.now }
         requires fits { fits ≡ is_own_condition self.old (prepare_seen prepare.now) }
         ensures only_memory { IsOkUnless result EndError.NoMemory }
-        ensures answers { IfOk result (λ r. received_as self.old (prepare_seen prepare.now) (opened_as self.old (prepare_seen prepare.now) (Ok (packet_of packet.now))) ≡ (received_seen r, self.new)) }
+        ensures answers { IfOk result (λ r. received_opened self.old (prepare_seen prepare.now) (Ok (packet_of packet.now)) ≡ (received_seen r, self.new)) }
         ensures unchanged { OnErr result (self.new ≡ self.old) }
     {
         if !fits {
@@ -230,7 +230,8 @@ impl<A: Allocator + Copy> EndState<A> {
     ) -> Result<Received<A>, EndError>
         requires { IsPayloadOf self.old.keys (prepare_seen prepare.now) payload.now }
         ensures only_memory { IsOkUnless result EndError.NoMemory }
-        ensures answers { IfOk result (λ r. received_as self.old (prepare_seen prepare.now) (opened_as self.old (prepare_seen prepare.now) (opened self.old.keys prepare_kind prepare.now.payload.now)) ≡ (received_seen r, self.new)) }
+        ensures answers { IfOk result (λ r. received_opened self.old (prepare_seen prepare.now) (opened self.old.keys prepare_kind prepare.now.payload.now)
+            ≡ (received_seen r, self.new)) }
         ensures unchanged { OnErr result (self.new ≡ self.old) }
     {
         match payload {
