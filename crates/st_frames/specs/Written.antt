@@ -4,7 +4,7 @@ use Rattle.std.specs.List.{position}
 use Rattle.st_oer.specs.Spelling.{octets, var_uint}
 use Rattle.st_oer.specs.Text.{is_utf8}
 use Rattle.st_frames.specs.declared.error.FrameError.{FrameError}
-use Rattle.st_frames.specs.declared.error.FrameError.TheVariants.{FrameFormat, TooLong}
+use Rattle.st_frames.specs.declared.error.FrameError.TheVariants.{FrameFormat, TooLong, NoMemory}
 use Rattle.st_frames.specs.Frames.{Known, Packet, OtherFrame, ConnectionNewAddress, max_packet}
 use Rattle.st_frames.specs.Table.{Field, Byte, Number, Limit, Octets, Text, Address, Item, Code, Num, Bytes, is_address_text, Row, row_of, layout}
 use Rattle.st_oer.specs.Seen.{Writes}
