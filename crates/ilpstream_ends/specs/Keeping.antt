@@ -143,7 +143,7 @@ TellsTotals opened before after told result = (now : EndState) × ReceivesFrom o
 -- an output's count of errors after it: one more if the result is a fault of it, and the same otherwise
 abbrev pub faults_reported : {T : Type 0} → Result T TransferError → ℕ → ℕ
 faults_reported (Ok x) count = count
-faults_reported (Err (File e)) count = file.faults_told {T = Unit {0}} (Err e) count
+faults_reported (Err (File e)) count = file.faults_reported {T = Unit {0}} (Err e) count
 faults_reported (Err Failed) count = count
 faults_reported (Err Stalled) count = count
 faults_reported (Err Rings) count = count
