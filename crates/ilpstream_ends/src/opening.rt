@@ -66,8 +66,8 @@ fn share_of(turns: u64, threads: u8, is_first: bool) -> u64 {
     share
 }
 
-/// Does what can be done at a thread's connections, and accepts a further one if it `accepts` any. Gives one once its request has arrived intact, and fails if the
-/// thread is to end.
+/// Does what can be done at a thread's connections, and accepts a further one if it `accepts` any. Gives one once its
+/// request has arrived intact, and fails if the thread is to end.
 fn turn<'g, N: ReceiverName, L: AwaitListener, R: Wait + Clock>(
     rt: &R,
     shared: &Shared<'_, N, L>,

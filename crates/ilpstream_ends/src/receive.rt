@@ -276,24 +276,27 @@ where
     }
 }
 
-/// Runs a receiver: answers the requests with the bearer token of the terms that arrive at `listener`, one after
-/// another, over ILP over HTTP (RFC 0035, the synchronous mode). The answers are those of `end`, which sends no Prepare of
-/// its own. The bytes that arrive on stream 1 are written to `writer` (RFC 0029): after each request what can be read
-/// then, before the next request is answered. The result is the number of bytes written, once the stream ended
-/// cleanly and the request that brought its end was answered.
+/// Runs a receiver: answers the requests with the bearer token of the terms that arrive at `listener`, over ILP over
+/// HTTP (RFC 0035, the synchronous mode). `terms.workers` threads read and open them, and this one judges them, one
+/// after another. The answers are those of `end`, which sends no Prepare of its own. The bytes that arrive on stream 1
+/// are written to `writer` (RFC 0029): after each request what can be read then, before the next request is judged. The
+/// result is the number of bytes written, once the stream ended cleanly and the request that brought its end was
+/// answered.
 ///
-/// Up to 256 connections are read at once, so that none that is silent or slow delays another; if one more arrives,
-/// the oldest is closed. `clock` gives the moments at which Prepares arrive. `rt` is the runtime that measures time: a
-/// request may take 30 seconds to arrive, and no longer than the receiver's patience; its answer may be written until
-/// then, and for 5 seconds at least. A valid request is one that is answered by the end: the patience begins again once
-/// what it brought is written. After each request, stream 1 and the output together are called at most `terms.turns`
-/// times. A connection that fails, is cut off, is too slow or uses up its I/O calls ends alone. The progress of the
-/// transfer is reported to `watch` each time that the receiver waited: for what arrives, and for a period at most.
+/// Up to 256 connections are read at once, by each thread an equal share of them, so that none that is silent or slow
+/// delays another; if one more arrives at a thread, its oldest is closed. `clock` gives the moments at which Prepares
+/// arrive. `rt` is the runtime that measures time: a request may take 30 seconds to arrive, and no longer than the
+/// receiver's patience; its answer may be written until then, and for 5 seconds at least. A valid request is one that
+/// is answered by the end: the patience begins again once what it brought is written. After each request, stream 1 and
+/// the output together are called at most `terms.turns` times. A connection that fails, is cut off, is too slow or uses
+/// up its I/O calls ends alone. The progress of the transfer is reported to `watch` each time that the receiver waited:
+/// for what arrives, and for a period at most.
 ///
-/// The result is `Accept` if the listener gives no connection 100 times in a row while none is open; `Silent` if no
-/// valid request arrived for as long as the patience lasts; `Turns` after the last connection, also if `watch` stopped it;
-/// `File` if the output fails or its calls are used up, and if the peer aborted the stream; `End` if `end` refuses the
-/// receive maximum, or memory to read the stream is refused. What arrived before is written.
+/// The result is `Accept` if each thread has ended, and one of them since the listener gave it no connection 100 times
+/// in a row while none was open, or if no thread can be made; `Silent` if no valid request arrived for as long as the
+/// patience lasts; `Turns` after the last connection, also if `watch` stopped it; `File` if the output fails or its
+/// calls are used up, and if the peer aborted the stream; `End` if `end` refuses the receive maximum, or memory to read
+/// the stream is refused. What arrived before is written.
 pub fn receive_on<
     L: AwaitListener + Send + Sync + Drop,
     R: Threads + Wait + std::time::Clock + Sync,
