@@ -1,9 +1,9 @@
 //! The money of a packet.
 
-ghost use Rattle.std.specs.Prelude.{[], ◌∷◌, ◌≡◌, ◌<◌, ◌≤◌, ◌^◌, ◌-◌, ◌*◌, length, IfOk, MatchOption};
+ghost use Rattle.std.specs.Prelude.{[], ◌∷◌, ◌≡◌, ◌<◌, ◌≤◌, ◌^◌, ◌-◌, ◌*◌, length, min, IfOk, MatchOption};
 ghost use Rattle.st_sender.specs.Allowed.{IsUnit, NoneUnit, least_for};
 ghost use Rattle.st_sender.specs.Flights.{room_for};
-ghost use Rattle.st_sender.specs.Paying.{Pays, flown_money, flown_least, most_for};
+ghost use Rattle.st_sender.specs.Paying.{Pays, all_payable, flown_money, flown_least, most_for};
 
 use crate::bounds::Bounds;
 use crate::load::{Flight, Payment};
@@ -74,7 +74,8 @@ pub fn least_for(least: Rate, amount: u64) -> u64
 }
 
 /// The money of all streams that one packet carries: at most `limit` units in all, and no more payments than fit in
-/// `room` bytes. `streams` has 65 places, one for each number from 0 to 64. Fails if memory is refused.
+/// `room` bytes. There is none in a room for one only if no money may be sent. `streams` has 65 places, one for each number
+/// from 0 to 64. Fails if memory is refused.
 pub fn payments<A: Allocator + Copy>(
     streams: &[Option<Stream<A>>],
     flights: &[Flight<A>],
@@ -84,7 +85,8 @@ pub fn payments<A: Allocator + Copy>(
     room: usize,
 ) -> Result<Vec<Payment, A>, AllocError>
     requires { length streams.now ≡ 65 }
-    ensures { IfOk result (λ v. Pays streams.now least flights.now limit room 65 v.items) }
+    ensures pays { IfOk result (λ v. Pays streams.now least flights.now limit room 65 v.items) }
+    ensures nothing { IfOk result (λ v. v.items ≡ [] → 34 ≤ room → min limit (all_payable streams.now least flights.now 65) ≡ 0) }
 {
     let mut payments = Vec::new(alloc);
     let mut left = limit;

@@ -1,6 +1,6 @@
-use Rattle.std.proofs.Common.{◌<◌, ◌∙◌, ap, arith, subst, sym, refl}
+use Rattle.std.proofs.Common.{◌<◌, ap, arith, subst, sym, refl}
 use Rattle.st_sender.specs.Paying.{payable}
-use Rattle.st_sender.proofs.Paying.{due_at, none_unit_more}
+use Rattle.st_sender.proofs.Paying.{due_at, due_some, none_unit_more}
 use Rattle.st_sender.proofs.payments.unit.Goals as goal
 use Rattle.st_sender.proofs.payments.unit.Goals.{then-payable-eq0-via-then-payable-eq0, then-payable-eq0-via-else-payable-eq0+then-bounds-unit_size}
 
@@ -14,7 +14,7 @@ loop-number-preserved-in_default g c =
 pub loop-number-preserved : goal.loop-number-preserved
 loop-number-preserved g c =
     let lt = subst (λ n. c.loop-number.number < n) (sym c.requires) c.loop-number-test.true in
-    let is = c.payable.ensures ∙ ap (payable c.args.least c.args.flights.now c.loop-number.number) (sym c.in-Some.is) in
+    let is = due_some c.args.least c.args.flights.now c.loop-number.number c.index-streams-number.result c.in-Some.stream c.payable.result c.in-Some.is c.payable.ensures in
     let due = due_at c.args.streams.now c.args.least c.args.flights.now c.loop-number.number c.index-streams-number.result c.payable.result lt c.index-streams-number.is is in
     none_unit_more c.args.streams.now c.args.flights.now c.args.least c.args.limit c.args.bounds c.loop-number.number c.loop-number.invariant
     (λ some. elim c.then-payable-eq0.branch [
@@ -25,7 +25,7 @@ loop-number-preserved g c =
 pub returns-in-loop-number : goal.returns-in-loop-number
 returns-in-loop-number g c =
     let lt = subst (λ n. c.loop-number.number < n) (sym c.requires) c.loop-number-test.true in
-    let is = c.payable.ensures ∙ ap (payable c.args.least c.args.flights.now c.loop-number.number) (sym c.in-Some.is) in
+    let is = due_some c.args.least c.args.flights.now c.loop-number.number c.index-streams-number.result c.in-Some.stream c.payable.result c.in-Some.is c.payable.ensures in
     let due = due_at c.args.streams.now c.args.least c.args.flights.now c.loop-number.number c.index-streams-number.result c.payable.result lt c.index-streams-number.is is in
     let size = rw c.least_for-amount.ensures at c.unit_size.ensures in
     record {
