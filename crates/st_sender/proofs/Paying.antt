@@ -1,5 +1,5 @@
 -- One payment more, or none, at the next stream.
-use Rattle.std.proofs.Common.{◌≡◌, ℕ, ◌+◌, ◌-◌, ◌/◌, ◌<◌, ◌≤◌, List, [], ◌∷◌, ◌++◌, length, get_or, map, min, sum, refl, sym, ap, subst, ◌∙◌, arith, Option, inl, inr, length-append}
+use Rattle.std.proofs.Common.{◌≡◌, ℕ, ◌+◌, ◌-◌, ◌/◌, ◌<◌, ◌≤◌, List, [], ◌∷◌, ◌++◌, length, get_or, map, min, sum, refl, sym, ap, subst, ◌∙◌, arith, Option, Some, inl, inr, length-append}
 use Rattle.std.specs.List.{AllByRecursion, range_with_len}
 use Rattle.std.proofs.lemmas.Bool.{cases_lt, cases_eq}
 use Rattle.std.proofs.lemmas.List.Sums.{sum_by_push}
@@ -86,6 +86,9 @@ pays_all lanes r ps limit room n ms e p = subst (λ i. Pays lanes r ps limit roo
 pub due_at : (lanes : Slots SendStream) (r : Ratio) (ps : List Flight) (n : ℕ) (o : Option SendStream) (due : ℕ) → n < length lanes → o ≡ get_or lanes n o → due ≡ payable r ps n o → due ≡ payable_at lanes r ps n
 due_at lanes r ps n o due lt at is = is ∙ ap (payable r ps n) (sym (found_at lanes n o lt at))
 
+pub due_some : (r : Ratio) (ps : List Flight) (n : ℕ) (o : Option SendStream) (l : SendStream) (due : ℕ) → o ≡ Some l → due ≡ payable r ps n (Some l) → due ≡ payable r ps n o
+due_some r ps n o l due at is = is ∙ ap (payable r ps n) (sym at)
+
 pub most_at : (lanes : Slots SendStream) (r : Ratio) (ps : List Flight) (n : ℕ) (o : Option SendStream) (due left most : ℕ) → n < length lanes → o ≡ get_or lanes n o → due ≡ payable r ps n o → most ≡ min due left → most ≡ min (payable_at lanes r ps n) left
 most_at lanes r ps n o due left most lt at is m = m ∙ ap (λ (d : ℕ). min d left) (due_at lanes r ps n o due lt at is)
 
@@ -97,3 +100,17 @@ pays_pushed lanes r ps limit room n left most ms all pushed p e m some fits =
 
 pub pays_first : (lanes : Slots SendStream) (r : Ratio) (ps : List Flight) (limit room : ℕ) (ms : List Payment) → ms ≡ [] → Pays lanes r ps limit room 0 ms × (limit + total ms ≡ limit)
 pays_first lanes r ps limit room ms none = subst (λ (xs : List Payment). Pays lanes r ps limit room 0 xs × (limit + total xs ≡ limit)) (sym none) (pays_none lanes r ps limit room, omega arith)
+
+-- where nothing is paid although a payment has room, nothing may be paid: at the first stream, at the next one that is paid nothing, at one that is paid
+pub nothing_first : (lanes : Slots SendStream) (r : Ratio) (ps : List Flight) (limit : ℕ) → min limit (all_payable lanes r ps 0) ≡ 0
+nothing_first lanes r ps limit = omega arith
+
+pub nothing_skip : (lanes : Slots SendStream) (r : Ratio) (ps : List Flight) (limit room n left most : ℕ) (ms : List Payment) → (ms ≡ [] → 34 ≤ room → min limit (all_payable lanes r ps n) ≡ 0) → left + total ms ≡ limit
+    → most ≡ min (payable_at lanes r ps n) left → (0 < most → room / 34 ≤ length ms) → ms ≡ [] → 34 ≤ room → min limit (all_payable lanes r ps (n + 1)) ≡ 0
+nothing_skip lanes r ps limit room n left most ms none e m stops empty wide = elim (cases_lt 0 most) [
+  | inl some ↦ absurd (let full = stops some in omega (arith, full, ap length empty))
+  | inr zero ↦ omega (arith, payable_more lanes r ps n, none empty wide, ap total empty)
+]
+
+pub nothing_pushed : (lanes : Slots SendStream) (r : Ratio) (ps : List Flight) (limit room n most count : ℕ) (ms all : List Payment) → all ≡ ms ++ paid n most ∷ [] → all ≡ [] → 34 ≤ room → min limit (all_payable lanes r ps count) ≡ 0
+nothing_pushed lanes r ps limit room n most count ms all pushed empty wide = absurd (omega (arith, ap length pushed, ap length empty, length-append ms (paid n most ∷ [])))

@@ -1,9 +1,9 @@
 //! The money of a packet.
 
-ghost use Rattle.std.specs.Prelude.{[], ◌∷◌, ◌≡◌, ◌<◌, ◌≤◌, ◌^◌, ◌-◌, ◌*◌, length, IfOk, MatchOption};
+ghost use Rattle.std.specs.Prelude.{[], ◌∷◌, ◌≡◌, ◌<◌, ◌≤◌, ◌^◌, ◌-◌, ◌*◌, length, min, IfOk, MatchOption};
 ghost use Rattle.st_sender.specs.Allowed.{IsUnit, NoneUnit, least_for};
 ghost use Rattle.st_sender.specs.Flights.{room_for};
-ghost use Rattle.st_sender.specs.Paying.{Pays, flown_money, flown_least, most_for, payable};
+ghost use Rattle.st_sender.specs.Paying.{Pays, all_payable, flown_money, flown_least, most_for};
 
 use crate::bounds::Bounds;
 use crate::load::{Flight, Payment};
@@ -73,23 +73,9 @@ pub fn least_for(least: Rate, amount: u64) -> u64
     least.of(amount).min(u128::from(u64::MAX)) as u64
 }
 
-/// How much money may be sent on a stream.
-fn payable_at<A: Allocator + Copy>(
-    place: &Option<Stream<A>>,
-    flights: &[Flight<A>],
-    number: u8,
-    least: Rate,
-) -> u64
-    ensures { result ≡ payable least flights.now number place.now }
-{
-    match place {
-        Some(stream) => stream.payable(flights, number, least),
-        None => 0,
-    }
-}
-
 /// The money of all streams that one packet carries: at most `limit` units in all, and no more payments than fit in
-/// `room` bytes. `streams` has 65 places, one for each number from 0 to 64. Fails if memory is refused.
+/// `room` bytes. There is none in a room for one only if no money may be sent. `streams` has 65 places, one for each number
+/// from 0 to 64. Fails if memory is refused.
 pub fn payments<A: Allocator + Copy>(
     streams: &[Option<Stream<A>>],
     flights: &[Flight<A>],
@@ -99,12 +85,16 @@ pub fn payments<A: Allocator + Copy>(
     room: usize,
 ) -> Result<Vec<Payment, A>, AllocError>
     requires { length streams.now ≡ 65 }
-    ensures { IfOk result (λ v. Pays streams.now least flights.now limit room 65 v.items) }
+    ensures pays { IfOk result (λ v. Pays streams.now least flights.now limit room 65 v.items) }
+    ensures nothing { IfOk result (λ v. v.items ≡ [] → 34 ≤ room → min limit (all_payable streams.now least flights.now 65) ≡ 0) }
 {
     let mut payments = Vec::new(alloc);
     let mut left = limit;
     for number in 0..65_u8 {
-        let amount = payable_at(&streams[number as usize], flights, number, least).min(left);
+        let Some(stream) = &streams[number as usize] else {
+            continue;
+        };
+        let amount = stream.payable(flights, number, least).min(left);
         if amount == 0 || room / PAYMENT_SIZE <= payments.len() {
             continue;
         }
@@ -134,7 +124,10 @@ pub fn unit<A: Allocator + Copy>(
     }
     let amount = least_for(least, 1);
     for number in 0..65_u8 {
-        if payable_at(&streams[number as usize], flights, number, least) == 0
+        let Some(stream) = &streams[number as usize] else {
+            continue;
+        };
+        if stream.payable(flights, number, least) == 0
             || bounds.room < unit_size(bounds.sequence, amount, number)
         {
             continue;
