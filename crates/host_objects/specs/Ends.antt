@@ -1,13 +1,13 @@
 -- What a call on an end's flights and bytes leaves.
-use Rattle.std.specs.Prelude.{◌≡◌, ℕ, true, List, [], Option, Some, Result, Ok, Err, slice_get}
+use Rattle.std.specs.Prelude.{◌≡◌, ℕ, true, List, [], Option, Some, Result, Ok, Err, slice_get, ◌++◌, ◌∷◌, ℤ, Bool, MatchOption}
 use Rattle.std.specs.List.{remove}
 use Rattle.st_receiver.specs.Reading as reading
 use Rattle.st_end.specs.declared.error.EndError.{EndError}
 use Rattle.st_end.specs.declared.flight.Open.{Open}
 use Rattle.st_end.specs.State.{EndState}
 use Rattle.st_end.specs.Receiving as receiving
-use Rattle.st_end.specs.Sending.{is_open}
-use Rattle.st_end.specs.Answers.{ended}
+use Rattle.st_end.specs.Sending.{is_open, Goes, GoesNone}
+use Rattle.st_end.specs.Answers.{ended, pays}
 use Rattle.host_objects.specs.declared.end.Answered.{Answered}
 use Rattle.host_objects.specs.declared.end.Piece.{Piece}
 use Rattle.host_objects.specs.declared.end.Piece.TheVariants as piece
@@ -62,3 +62,18 @@ piece_seen bytes (Err why) = Err why
 abbrev pub IfNoBytes : Piece → Type 0 → Type 0
 IfNoBytes piece.Bytes P = Unit {0}
 IfNoBytes other P = P
+
+-- no flight of this number is open, and nothing changes
+abbrev pub FindsNoFlight : (number : ℕ) (old new : HostEnd) → Type 0
+FindsNoFlight number old new = HasNoFlight old.state old.flights.items number × (new ≡ old)
+
+-- a Prepare is output, and its flight is kept after the others; or nothing is to be sent, and all stays
+abbrev pub SendsKept : (iv : List ℕ) (now : ℤ) (old new : HostEnd) → Option ℕ → Type 0
+SendsKept iv now old new sent = MatchOption sent (GoesNone old.state × IsSameEnd old new)
+    (λ number. (f : Open) × ((f.sequence ≡ number)
+    × (Goes old.state iv now f new.output.items new.state × (new.flights.items ≡ old.flights.items ++ f ∷ []))))
+
+-- the flight of this number ends by an answer, and whether it pays is told; or there is none
+abbrev pub TakesAnswer : (number : ℕ) (bytes : List ℕ) (old new : HostEnd) → Option Bool → Type 0
+TakesAnswer number bytes old new taken = MatchOption taken (FindsNoFlight number old new)
+    (λ pays_out. (f : Open) × (IsSpent old new number (Some bytes) f × (pays_out ≡ pays f (Some bytes))))

@@ -67,3 +67,7 @@ abbrev pub IsToldBooking : HostHop → (number : ℕ) (bytes : List ℕ) (now : 
 IsToldBooking h number bytes now Unknown = HasNoTicket h.state h.tickets.items number
 IsToldBooking h number bytes now Nothing = (t : Open) × ((place : ℕ) × (IsTicket h.state h.tickets.items number place t × (is_booked t (Some bytes) now ≡ false)))
 IsToldBooking h number bytes now (Books t) = (place : ℕ) × (IsTicket h.state h.tickets.items number place t × (is_booked t (Some bytes) now ≡ true))
+
+-- no open ticket has this number, and nothing changes
+abbrev pub FindsNoTicket : (number : ℕ) (old new : HostHop) → Type 0
+FindsNoTicket number old new = HasNoTicket old.state old.tickets.items number × (new ≡ old)

@@ -1,17 +1,19 @@
 -- A plain STREAM packet and its frames, as a host has them.
-use Rattle.std.specs.Prelude.{◌≡◌, ◌⊎◌, ◌≤◌, ◌++◌, ◌∷◌, ◌&&◌, ℕ, Bool, true, false, nat_le, List, [], length, map, Ok, Err, string_bytes}
+use Rattle.std.specs.Prelude.{◌≡◌, ◌⊎◌, ◌≤◌, ◌++◌, ◌∷◌, ◌&&◌, ℕ, Bool, true, false, nat_le, List, [], length, map, Ok, Err, string_bytes, Option, Some, None, Result, slice_get, MatchOption, MatchResult}
 use Rattle.st_frames.specs.declared.error.FrameError.{FrameError}
 use Rattle.st_frames.specs.declared.error.FrameError.TheVariants.{NoMemory, FrameFormat}
 use Rattle.st_frames.specs.Frames.{Known, Packet}
 use Rattle.st_frames.specs.Frames as known
 use Rattle.st_frames.specs.Reading.{packet_at}
-use Rattle.st_frames.specs.Written.{is_unwritable}
+use Rattle.st_frames.specs.Written.{is_unwritable, written}
 use Rattle.host_objects.specs.declared.frame.KeptFrame.{KeptFrame}
 use Rattle.host_objects.specs.declared.frame.KeptFrame.TheVariants.{ConnectionClose, ConnectionNewAddress, ConnectionMaxData, ConnectionDataBlocked, StreamClose, StreamMoney, StreamMaxMoney, StreamMoneyBlocked, StreamData, StreamMaxData, StreamDataBlocked}
 use Rattle.host_objects.specs.declared.packet.PacketKind.{PacketKind}
 use Rattle.host_objects.specs.declared.packet.PacketKind.TheVariants.{Prepare, Fulfill, Reject}
 use Rattle.host_objects.specs.declared.packet.PlacedFrame.{PlacedFrame}
 use Rattle.host_objects.specs.declared.packet.HostPacket.{HostPacket}
+use Rattle.st_frames.specs.Seen.{seen_at}
+use Rattle.st_frames.specs.declared.frame.Frame.{Frame}
 
 -- ---- kinds
 
@@ -83,3 +85,20 @@ IsPushed old new k = (is_unwritable k ≡ false) × IsKept old new (length old.f
 -- the frame cannot be written, or memory for it is refused
 abbrev pub RefusesToPush : (old new : HostPacket) → Known → FrameError → Type 0
 RefusesToPush old new k e = IsSamePacket old new × (((e ≡ FrameFormat (length old.frames.items)) × (is_unwritable k ≡ true)) ⊎ (e ≡ NoMemory))
+
+-- the packet that the bytes are, or why they are none; but memory may be refused
+abbrev pub ReadsPacket : (kind : ℕ) (bytes : List ℕ) → Result HostPacket FrameError → Type 0
+ReadsPacket kind bytes result = MatchResult result (λ p. IsReadPacket kind bytes p) (λ e. (e ≡ NoMemory) ⊎ (packet_at kind bytes ≡ Err e))
+
+-- the frame at a place, with its index, if there is one
+abbrev pub IsFrameAt : (place : ℕ) → List PlacedFrame → Option (ℕ × Frame) → Type 0
+IsFrameAt place frames found =
+    MatchOption found (slice_get frames place ≡ None) (λ x. (p : PlacedFrame) × ((slice_get frames place ≡ Some p) × (seen_at x ≡ placed p)))
+
+-- what writing the packet gives
+abbrev pub written_of : HostPacket → Result (List ℕ) FrameError
+written_of p = written (kind_number p.kind) p.sequence p.amount (map (λ x. kept x.frame) p.frames.items)
+
+-- the output is the bytes of the packet, or it is refused; but memory may be refused
+abbrev pub WritesOut : {X : Type 0} → (old new : HostPacket) → Result X FrameError → Type 0
+WritesOut old new result = MatchResult result (λ _. written_of old ≡ Ok new.output.items) (λ e. (e ≡ NoMemory) ⊎ (written_of old ≡ Err e))

@@ -1,16 +1,15 @@
 //! An end of a connection, with the flights that wait for their answer and the bytes that the last call returned.
 
-ghost use Rattle.std.specs.Prelude.{◌≡◌, ◌≢◌, ◌<◌, ◌≤◌, ◌++◌, ◌∷◌, [], ℕ, true, Some, None, OnErr, IfOk, MatchBool, MatchOption, IsOkUnless};
+ghost use Rattle.std.specs.Prelude.{◌≡◌, ◌<◌, ◌≤◌, true, Some, None, OnErr, IfOk, MatchBool, MatchOption, IsOkUnless};
 ghost use Rattle.st_oer.specs.Address.{is_address};
 ghost use Rattle.st_keys.specs.Keys.{keys_of};
 ghost use Rattle.st_end.specs.declared.flight.Open as open_flight;
 ghost use Rattle.st_end.specs.State.{new_end};
-ghost use Rattle.st_end.specs.Sending.{is_open, Goes, GoesNone};
-ghost use Rattle.st_end.specs.Answers.{pays};
+ghost use Rattle.st_end.specs.Sending.{is_open};
 ghost use Rattle.st_end.specs.Calls.{OrWants};
 ghost use Rattle.st_end.specs.Reading as reading;
 ghost use Rattle.st_end.specs.Receiving.{received};
-ghost use Rattle.host_objects.specs.Ends.{IsNewEnd, IsSameEnd, IsFlight, HasNoFlight, IsSpent, answered_seen, piece_seen, IfNoBytes};
+ghost use Rattle.host_objects.specs.Ends.{IsNewEnd, IsSameEnd, IsFlight, HasNoFlight, IsSpent, answered_seen, piece_seen, IfNoBytes, SendsKept, TakesAnswer, FindsNoFlight};
 
 use st_end::{EndError, EndState, OpenFlight, Received, Role};
 use st_ilp::Moment;
@@ -92,7 +91,7 @@ impl HostEnd {
     /// `None` if nothing is to be sent. Fails with `NoMemory` alone, if memory is refused.
     pub fn send(&mut self, iv: [u8; 12], now: Moment) -> Result<Option<u64>, EndError>
         ensures only_memory { IsOkUnless result EndError.NoMemory }
-        ensures goes { IfOk result (λ sent. MatchOption sent (GoesNone self.old.state × IsSameEnd self.old self.new) (λ number. (f : open_flight.Open) × ((f.sequence ≡ number) × (Goes self.old.state iv now f self.new.output.items self.new.state × (self.new.flights.items ≡ self.old.flights.items ++ f ∷ []))))) }
+        ensures goes { IfOk result (λ sent. SendsKept iv now self.old self.new sent) }
         ensures unchanged { OnErr result (IsSameEnd self.old self.new) }
     {
         self.flights.reserve(1)?;
@@ -151,7 +150,7 @@ impl HostEnd {
     /// Handles the bytes of the answer to a flight: whether they are a Fulfill that fits. They are decrypted in
     /// place. `None` exactly if no open flight has this number.
     pub fn answer(&mut self, number: u64, bytes: &mut [u8]) -> Option<bool>
-        ensures { MatchOption result (HasNoFlight self.old.state self.old.flights.items number × (self.new ≡ self.old)) (λ taken. (f : open_flight.Open) × (IsSpent self.old self.new number (Some bytes.old) f × (taken ≡ pays f (Some bytes.old)))) }
+        ensures { TakesAnswer number bytes.old self.old self.new result }
     {
         let place = place_of(&self.state, &self.flights, number)?;
         let flight = self.flights.remove(place).spend();
@@ -160,7 +159,7 @@ impl HostEnd {
 
     /// There is no answer to a flight: what it carries is due again. Whether an open flight has this number.
     pub fn fault(&mut self, number: u64) -> bool
-        ensures { MatchBool result ((f : open_flight.Open) × IsSpent self.old self.new number None f) (HasNoFlight self.old.state self.old.flights.items number × (self.new ≡ self.old)) }
+        ensures { MatchBool result ((f : open_flight.Open) × IsSpent self.old self.new number None f) (FindsNoFlight number self.old self.new) }
     {
         let Some(place) = place_of(&self.state, &self.flights, number) else {
             return false;

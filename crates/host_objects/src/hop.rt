@@ -1,12 +1,12 @@
 //! A hop, with the tickets that wait for their answer and the bytes that the last call returned.
 
-ghost use Rattle.std.specs.Prelude.{◌≡◌, ◌<◌, ◌++◌, ◌∷◌, [], ℕ, pos, length, map, nat_lt, Some, None, OnOk, OnErr, IfOk, IfErr, IsOk, IsOkUnless, IsErrOf, MatchBool, MatchOption};
+ghost use Rattle.std.specs.Prelude.{◌≡◌, ◌<◌, length, map, nat_lt, Some, None, OnOk, OnErr, IfOk, IfErr, IsOkUnless, IsErrOf, MatchBool, MatchOption};
 ghost use Rattle.st_hop.specs.declared.ticket.Open as open_ticket;
 ghost use Rattle.st_hop.specs.Books.{AreBooks, WhyNotRestored, restored};
 ghost use Rattle.st_links.specs.Outcomes.{outcome_seen};
 ghost use Rattle.st_hop.specs.Seen.{way_seen};
-ghost use Rattle.st_hop.specs.Table.{is_table, new_hop};
-ghost use Rattle.host_objects.specs.Hops.{IsNewHop, IsSameHop, IsTicket, HasNoTicket, Arrives, IsSettled, IsAbandoned, IsRestarted, IsToldBooking};
+ghost use Rattle.st_hop.specs.Table.{is_table, new_hop, RefusesBadTable};
+ghost use Rattle.host_objects.specs.Hops.{IsNewHop, IsSameHop, IsTicket, HasNoTicket, Arrives, IsSettled, IsAbandoned, IsRestarted, IsToldBooking, FindsNoTicket};
 
 use st_hop::{Account, HopError, HopState, Open, OpenTicket, Route, Verdict, books_go_on};
 use st_ilp::Moment;
@@ -70,7 +70,7 @@ impl HostHop {
         routes: &[Route<'_>],
     ) -> Result<HostHop, HopError>
         ensures made { IfOk result (λ k. IsNewHop (new_hop own.now accounts.now (map way_seen routes.now)) k) }
-        ensures refused { MatchBool (is_table own.now accounts.now (map way_seen routes.now)) (IsOkUnless result HopError.NoMemory) (IsErrOf result HopError.BadTable) }
+        ensures refused { RefusesBadTable (is_table own.now accounts.now (map way_seen routes.now)) result }
     {
         Ok(HostHop {
             state: HopState::new(alloc, own, accounts, routes)?,
@@ -116,7 +116,8 @@ impl HostHop {
     /// Handles the bytes of a Prepare from an account. Outputs the bytes that answer it, or those to forward. Fails with
     /// `NoAccount` if there is no account with this index, and otherwise with `NoMemory` if memory is refused.
     pub fn arrive(&mut self, account: usize, bytes: &[u8], now: Moment) -> Result<Way, HopError>
-        ensures refused { MatchBool (nat_lt account (length self.old.state.accounts)) (IsOkUnless result HopError.NoMemory) (IsErrOf result HopError.NoAccount) }
+        ensures refused { MatchBool (nat_lt account (length self.old.state.accounts))
+            (IsOkUnless result HopError.NoMemory) (IsErrOf result HopError.NoAccount) }
         ensures arrived { IfOk result (λ way. Arrives self.old account bytes.now now way self.new) }
         ensures unchanged { OnErr result (IsSameHop self.old self.new) }
     {
@@ -146,7 +147,7 @@ impl HostHop {
     /// Ends a Prepare that was forwarded under this number, and outputs the answer to the Prepare that had arrived. Whether an open
     /// ticket has this number.
     fn close(&mut self, number: u64, outcome: Outcome<Global>, now: Moment) -> bool
-        ensures { MatchBool result (IsSettled self.old self.new number (outcome_seen outcome) now) (HasNoTicket self.old.state self.old.tickets.items number × (self.new ≡ self.old)) }
+        ensures { MatchBool result (IsSettled self.old self.new number (outcome_seen outcome) now) (FindsNoTicket number self.old self.new) }
     {
         let Some(place) = place_of(&self.state, &self.tickets, number) else {
             return false;
@@ -165,7 +166,8 @@ impl HostHop {
         bytes: &[u8],
         now: Moment,
     ) -> Result<bool, AllocError>
-        ensures settled { IfOk result (λ found. MatchBool found (IsSettled self.old self.new number (Some bytes.now) now) (HasNoTicket self.old.state self.old.tickets.items number × (self.new ≡ self.old))) }
+        ensures settled { IfOk result (λ found. MatchBool found (IsSettled self.old self.new number (Some bytes.now) now)
+            (FindsNoTicket number self.old self.new)) }
         ensures unchanged { OnErr result (self.new ≡ self.old) }
     {
         let outcome = Outcome::Answered(Vec::from_slice(alloc, bytes)?);
@@ -197,14 +199,14 @@ impl HostHop {
     /// There is no answer to a Prepare that was forwarded under this number: outputs the answer to the Prepare that had arrived.
     /// Whether an open ticket has this number.
     pub fn fault(&mut self, number: u64, now: Moment) -> bool
-        ensures { MatchBool result (IsSettled self.old self.new number None now) (HasNoTicket self.old.state self.old.tickets.items number × (self.new ≡ self.old)) }
+        ensures { MatchBool result (IsSettled self.old self.new number None now) (FindsNoTicket number self.old self.new) }
     {
         self.close(number, Outcome::Fault, now)
     }
 
     /// Gives up a ticket without an answer. The amount stays reserved. Whether an open ticket has this number.
     pub fn abandon(&mut self, number: u64) -> bool
-        ensures { MatchBool result (IsAbandoned self.old self.new number) (HasNoTicket self.old.state self.old.tickets.items number × (self.new ≡ self.old)) }
+        ensures { MatchBool result (IsAbandoned self.old self.new number) (FindsNoTicket number self.old self.new) }
     {
         let Some(place) = place_of(&self.state, &self.tickets, number) else {
             return false;

@@ -1,10 +1,10 @@
 //! The keys of a connection, for a host that seals and opens packets itself (RFC 0029).
 
-ghost use Rattle.std.specs.Prelude.{◌≡◌, ◌⊎◌, ◌≤◌, ◌++◌, length, take, drop, IsOkUnless, IfOk, OnOk, OnErr, MatchResult, Ok, Err};
+ghost use Rattle.std.specs.Prelude.{◌≡◌, ◌≤◌, length, IsOkUnless, IfOk, OnOk, OnErr, Ok};
 ghost use Rattle.st_aes.specs.Gcm.{tag, counter_mode};
 ghost use Rattle.st_keys.specs.Keys.{keys_of, fulfillment};
 ghost use Rattle.st_keys.specs.Sealed.{ciphertext_of, sealed, unsealed};
-ghost use Rattle.host_objects.specs.KeyRings.{IsNewKeys};
+ghost use Rattle.host_objects.specs.KeyRings.{IsNewKeys, Unseals};
 
 use st_aes::{Key, seal};
 use st_keys::{KeyError, Keys, OVERHEAD, hmac};
@@ -62,7 +62,7 @@ impl Sealer {
 
     /// Decrypts a payload in place, and copies its text.
     fn unseal_text(&self, alloc: Global, payload: &mut [u8]) -> Result<Vec<u8>, KeyError>
-        ensures { MatchResult result (λ text. unsealed self.now payload.old ≡ Ok text.items) (λ e. (e ≡ KeyError.NoMemory) ⊎ (unsealed self.now payload.old ≡ Err e)) }
+        ensures { Unseals (λ text. text.items) (unsealed self.now payload.old) result }
     {
         self.keys.unseal_payload(payload)?;
         Ok(Vec::from_slice(alloc, &payload[OVERHEAD..])?)
@@ -127,7 +127,7 @@ impl HostKeys {
     /// Fails with `Short` if the payload has fewer bytes than `OVERHEAD`, with `Tag` if its tag does not match its
     /// ciphertext, and with `NoMemory`; then nothing changes.
     pub fn open(&mut self, alloc: Global, payload: &[u8]) -> Result<(), KeyError>
-        ensures opened { MatchResult result (λ _. unsealed self.old.keys payload.now ≡ Ok self.new.output.items) (λ e. (e ≡ KeyError.NoMemory) ⊎ (unsealed self.old.keys payload.now ≡ Err e)) }
+        ensures opened { Unseals (λ _. self.new.output.items) (unsealed self.old.keys payload.now) result }
         ensures keys { self.new.keys ≡ self.old.keys }
         ensures unchanged { OnErr result (self.new ≡ self.old) }
     {

@@ -1,11 +1,9 @@
 //! A plain STREAM packet (RFC 0029), whose frames a host adds and takes one by one.
 
-ghost use Rattle.std.specs.Prelude.{◌≡◌, ◌≤◌, ◌⊎◌, ◌++◌, ◌∷◌, [], length, map, slice_get, true, false, None, Some, Ok, Err, OnOk, OnErr, IfOk, MatchOption, MatchResult};
-ghost use Rattle.st_oer.specs.Seen.{Writes};
-ghost use Rattle.st_frames.specs.Reading.{packet_at};
-ghost use Rattle.st_frames.specs.Seen.{seen, seen_at};
+ghost use Rattle.std.specs.Prelude.{◌≡◌, ◌≤◌, map, true, false, None, Some, Ok, Err, OnOk, OnErr, IfOk, MatchOption, MatchResult};
+ghost use Rattle.st_frames.specs.Seen.{seen};
 ghost use Rattle.st_frames.specs.Written.{written, is_unwritable};
-ghost use Rattle.host_objects.specs.Packets.{kept, placed, kind_number, is_kind, packet_seen, IsNewPacket, IsReadPacket, IsSamePacket, IsKept, AreKept, IsPushed, RefusesToPush};
+ghost use Rattle.host_objects.specs.Packets.{kept, placed, kind_number, is_kind, packet_seen, IsNewPacket, IsSamePacket, IsKept, AreKept, IsPushed, RefusesToPush, ReadsPacket, IsFrameAt, WritesOut};
 
 use crate::frame::KeptFrame;
 use st_frames::{Frame, FrameError, Frames, StreamPacket, packet_law, read_packet, write_packet};
@@ -102,7 +100,7 @@ impl HostPacket {
     ///
     /// Fails as `read_packet` does, and with `NoMemory`.
     pub fn read(alloc: Global, kind: PacketKind, bytes: &[u8]) -> Result<HostPacket, FrameError>
-        ensures { MatchResult result (λ p. IsReadPacket (kind_number kind) bytes.now p) (λ e. (e ≡ FrameError.NoMemory) ⊎ (packet_at (kind_number kind) bytes.now ≡ Err e)) }
+        ensures { ReadsPacket (kind_number kind) bytes.now result }
     {
         packet_law();
         let StreamPacket {
@@ -153,7 +151,7 @@ impl HostPacket {
 
     /// The known frame at a place, with its index. `None` exactly if there are not more than `place` frames.
     pub fn frame(&self, place: usize) -> Option<(u64, Frame<'_>)>
-        ensures { MatchOption result (slice_get self.now.frames.items place ≡ None) (λ x. (p : PlacedFrame) × ((slice_get self.now.frames.items place ≡ Some p) × (seen_at x ≡ placed p))) }
+        ensures { IsFrameAt place self.now.frames.items result }
     {
         let PlacedFrame { index, frame } = self.frames.get(place)?;
         Some((*index, frame.lent()))
@@ -174,7 +172,7 @@ impl HostPacket {
     ///
     /// Fails as `write_packet` does; then the packet is as before.
     pub fn write(&mut self, alloc: Global) -> Result<(), FrameError>
-        ensures written { MatchResult result (λ _. written (kind_number self.old.kind) self.old.sequence self.old.amount (map (λ p. kept p.frame) self.old.frames.items) ≡ Ok self.new.output.items) (λ e. (e ≡ FrameError.NoMemory) ⊎ (written (kind_number self.old.kind) self.old.sequence self.old.amount (map (λ p. kept p.frame) self.old.frames.items) ≡ Err e)) }
+        ensures written { WritesOut self.old self.new result }
         ensures same { packet_seen self.new ≡ packet_seen self.old }
         ensures unchanged { OnErr result (self.new ≡ self.old) }
     {

@@ -1,5 +1,5 @@
 -- What a call on a handle of an end answers and leaves.
-use Rattle.std.specs.Prelude.{◌≡◌, ◌⊎◌, ◌++◌, ◌<◌, ℕ, zero, suc, ℤ, Bool, true, List, [], ◌∷◌, length, Option, Some, None, Result, Ok, Err, IfOk}
+use Rattle.std.specs.Prelude.{◌≡◌, ◌⊎◌, ◌++◌, ◌<◌, ℕ, zero, suc, ℤ, Bool, true, List, [], ◌∷◌, length, Option, Some, None, Result, Ok, Err, IfOk, MatchResult}
 use Rattle.std.specs.List.{range_with_len, filter}
 use Rattle.st_oer.specs.Address.{is_address}
 use Rattle.st_oer.specs.Ratios.{IsRatio, ratio}
@@ -42,6 +42,10 @@ role_of (suc n) = Server
 abbrev pub config_of : HostConfig → Config
 config_of c = with_least (ratio c.least_num c.least_den) (config c.in_flight c.packets c.packet_limit)
 
+-- the numbers of a configuration are in their ranges
+abbrev pub AreNumbers : HostConfig → Type 0
+AreNumbers c = IsConfig (config c.in_flight c.packets c.packet_limit) × IsRatio (ratio c.least_num c.least_den)
+
 -- what an end can be made of
 pub record AreTerms (role : ℕ) (own peer : List ℕ) (c : HostConfig) : Type 0 where
   pub role_is : role < 2
@@ -49,6 +53,12 @@ pub record AreTerms (role : ℕ) (own peer : List ℕ) (c : HostConfig) : Type 0
   pub peer_is : is_address peer ≡ true
   pub numbers : IsConfig (config c.in_flight c.packets c.packet_limit)
   pub least : IsRatio (ratio c.least_num c.least_den)
+
+-- the end of these terms, or why there is none
+abbrev pub MakesEnd : (role : ℕ) (secret own peer : List ℕ) (c : HostConfig) → Result HostEnd ℕ → Type 0
+MakesEnd role secret own peer c result = MatchResult result
+    (λ e. AreTerms role own peer c × IsNewEnd (new_end (role_of role) (keys_of secret) own peer (config_of c)) e)
+    (λ code. (code ≡ no_memory) ⊎ ((code ≡ argument) × (¬ AreTerms role own peer c)))
 
 -- of these terms an end is made, unless memory is refused; of others none
 abbrev pub IsEndMade : (role : ℕ) (secret own peer : List ℕ) (c : HostConfig) (old new : Option Object) (code : ℕ) → Type 0

@@ -58,3 +58,18 @@ Copies bytes before after code len =
 abbrev pub PutsOut : (old new : Option Object) → (before after : List ℕ) → (code len : ℕ) → Type 0
 PutsOut None new before after code len = Misused None new code × (after ≡ before)
 PutsOut (Some o) new before after code len = (new ≡ Some o) × Copies (output_of o) before after code len
+
+-- ---- arguments, and then the object
+
+abbrev pub OnEndIf : Bool → (old new : Option Object) → (code : ℕ) → (HostEnd → HostEnd → Type 0) → Type 0
+OnEndIf fits old new code P = IfFits fits old new code (OnEnd old new code P)
+
+abbrev pub OnEndIfBoth : (fits also : Bool) → (old new : Option Object) → (code : ℕ) → (HostEnd → HostEnd → Type 0) → Type 0
+OnEndIfBoth fits also old new code P = IfFits fits old new code (IfFits also old new code (OnEnd old new code P))
+
+-- the same at a moment, which has to be one
+abbrev pub OnEndAt : (now : ℤ) → (old new : Option Object) → (code : ℕ) → (HostEnd → HostEnd → Type 0) → Type 0
+OnEndAt now old new code P = IfMoment now old new code (OnEnd old new code P)
+
+abbrev pub OnHopAt : (now : ℤ) → (old new : Option Object) → (code : ℕ) → (HostHop → HostHop → Type 0) → Type 0
+OnHopAt now old new code P = IfMoment now old new code (OnHop old new code P)

@@ -1,5 +1,5 @@
 -- What a call on a handle of a hop answers and leaves.
-use Rattle.std.specs.Prelude.{◌≡◌, ◌⊎◌, ◌&&◌, ℕ, ℤ, Bool, true, false, nat_eq, nat_lt, nat_le, List, [], ◌∷◌, length, map, take, drop, Option, Some, None, slice_index, MatchBool}
+use Rattle.std.specs.Prelude.{◌≡◌, ◌⊎◌, ◌&&◌, ℕ, ℤ, Bool, true, false, nat_eq, nat_lt, nat_le, List, [], ◌∷◌, length, map, take, drop, Option, Some, None, slice_index, MatchBool, Result, MatchResult}
 use Rattle.st_oer.specs.Address.{is_address}
 use Rattle.st_oer.specs.Ratios.{ratio}
 use Rattle.st_hop.specs.declared.account.Account.{Account}
@@ -20,6 +20,8 @@ use Rattle.ilpstream_c.specs.declared.table.HostRoute.{HostRoute}
 use Rattle.ilpstream_c.specs.declared.hop.HostArrived.{HostArrived}
 use Rattle.ilpstream_c.specs.declared.hop.HostBooking.{HostBooking}
 use Rattle.ilpstream_c.specs.declared.hop.HostBalances.{HostBalances}
+use Rattle.st_hop.specs.Seen.{way_seen}
+use Rattle.ilpstream_c.specs.declared.table.Table.{Table}
 
 abbrev pub bad_table : ℕ
 bad_table = 34
@@ -55,6 +57,25 @@ abbrev pub are_routes : (text : List ℕ) → List HostRoute → Bool
 are_routes text [] = nat_eq (length text) 0
 are_routes text (r ∷ rs) = nat_le r.prefix_len (length text) && (is_address (take r.prefix_len text) && (is_rate r && are_routes (drop r.prefix_len text) rs))
 
+-- memory is refused, or what is given does not fit
+abbrev pub IsRefusedUnless : (fits : Bool) (code : ℕ) → Type 0
+IsRefusedUnless fits code = (code ≡ hop_no_memory) ⊎ ((code ≡ argument) × (fits ≡ false))
+
+-- the table of this address, these accounts and these routes
+abbrev pub IsTableOf : (own : List ℕ) (accounts : List HostAccount) (text : List ℕ) (routes : List HostRoute) → Table → Type 0
+IsTableOf own accounts text routes t =
+    (are_routes text routes ≡ true)
+    × ((t.own.now ≡ own) × ((t.accounts.items ≡ map account_of accounts) × (map way_seen t.routes.items ≡ ways_of text routes)))
+
+-- the hop of this table, or why there is none
+abbrev pub MakesHop : (own : List ℕ) (accounts : List HostAccount) (text : List ℕ) (routes : List HostRoute) → Result HostHop ℕ → Type 0
+MakesHop own accounts text routes result = MatchResult result
+    (λ h. (is_table own (map account_of accounts) (ways_of text routes) ≡ true)
+    × ((are_routes text routes ≡ true) × IsNewHop (new_hop own (map account_of accounts) (ways_of text routes)) h))
+    (λ code. (code ≡ hop_no_memory)
+    ⊎ (((code ≡ argument) × (is_address own && are_routes text routes ≡ false))
+    ⊎ ((code ≡ bad_table) × (is_table own (map account_of accounts) (ways_of text routes) ≡ false))))
+
 -- a hop of this table is made, unless memory is refused; of a bad one none
 abbrev pub IsHopMade : (own : List ℕ) (accounts : List HostAccount) (text : List ℕ) (routes : List HostRoute) (old new : Option Object) (code : ℕ) → Type 0
 IsHopMade own accounts text routes None new code =
@@ -74,6 +95,15 @@ WhyNoHop own accounts text routes claims dues code =
     ⊎ (((code ≡ argument) × (is_address own && are_routes text routes ≡ false))
     ⊎ (((code ≡ bad_table) × (is_table own (map account_of accounts) (ways_of text routes) ≡ false))
     ⊎ ((code ≡ bad_books) × ((is_table own (map account_of accounts) (ways_of text routes) ≡ true) × (AreBooks (map account_of accounts) claims dues → ⊥)))))
+
+-- the hop of this table that continues with these books, or why there is none
+abbrev pub RestoresHop : (own : List ℕ) (accounts : List HostAccount) (text : List ℕ) (routes : List HostRoute)
+    (claims dues : List ℕ) (next : ℕ) → Result HostHop ℕ → Type 0
+RestoresHop own accounts text routes claims dues next result = MatchResult result
+    (λ h. (are_routes text routes ≡ true)
+    × (AreBooks (map account_of accounts) claims dues
+    × IsNewHop (restored (new_hop own (map account_of accounts) (ways_of text routes)) claims dues next) h))
+    (λ code. WhyNoHop own accounts text routes claims dues code)
 
 -- the hop of this table that continues with these books is made, its tickets numbered from here on; or none is, and why
 abbrev pub IsHopRestored : (own : List ℕ) (accounts : List HostAccount) (text : List ℕ) (routes : List HostRoute) (claims dues : List ℕ) (next : ℕ) (old new : Option Object) (code : ℕ) → Type 0

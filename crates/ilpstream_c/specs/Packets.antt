@@ -54,6 +54,9 @@ abbrev pub IfFrame : Option Known → (old new : Option Object) → (code : ℕ)
 IfFrame None old new code P = Refused old new code
 IfFrame (Some k) old new code P = P k
 
+abbrev pub OnPacketWith : Option Known → (old new : Option Object) → (code : ℕ) → (Known → HostPacket → HostPacket → Type 0) → Type 0
+OnPacketWith given old new code P = IfFrame given old new code (λ k. OnPacket old new code (P k))
+
 -- a frame is added, or refused by the number of why
 abbrev pub Pushes : (old new : HostPacket) → Known → (code : ℕ) → Type 0
 Pushes old new k code = ((code ≡ done) × IsPushed old new k) ⊎ ((e : FrameError) × ((code ≡ number e) × RefusesToPush old new k e))

@@ -1,15 +1,9 @@
 //! Calls that make an end of a connection (RFC 0029), and those on its streams.
 
-ghost use Rattle.std.specs.Prelude.{◌≡◌, ◌<◌, ◌⊎◌, nat_lt, MatchOption, MatchResult};
+ghost use Rattle.std.specs.Prelude.{◌≡◌, ◌<◌, nat_lt, MatchOption};
 ghost use Rattle.st_end.specs.Calls as calls;
-ghost use Rattle.st_end.specs.State.{new_end};
-ghost use Rattle.st_keys.specs.Keys.{keys_of};
-ghost use Rattle.st_oer.specs.Ratios.{IsRatio, ratio};
-ghost use Rattle.st_sender.specs.Configs.{IsConfig, config};
-ghost use Rattle.host_objects.specs.Codes.{argument};
-ghost use Rattle.host_objects.specs.Ends.{IsNewEnd};
-ghost use Rattle.ilpstream_c.specs.Handles.{OnEnd, IfFits, is_byte, is_abort};
-ghost use Rattle.ilpstream_c.specs.Ends.{AreTerms, IsEndMade, Answers, Numbers, Reads, role_of, config_of, no_memory};
+ghost use Rattle.ilpstream_c.specs.Handles.{OnEnd, is_byte, is_abort, OnEndIf, OnEndIfBoth};
+ghost use Rattle.ilpstream_c.specs.Ends.{IsEndMade, Answers, Numbers, Reads, role_of, config_of, AreNumbers, MakesEnd};
 
 use crate::arguments::address;
 use crate::handle::{is_empty, put_new};
@@ -68,7 +62,7 @@ fn role(number: u32) -> Option<Role>
 
 /// A configuration whose numbers are in their ranges.
 fn config(terms: &HostConfig) -> Option<EndConfig>
-    ensures { MatchOption result (¬ (IsConfig (config terms.now.in_flight terms.now.packets terms.now.packet_limit) × IsRatio (ratio terms.now.least_num terms.now.least_den))) (λ c. (IsConfig (config terms.now.in_flight terms.now.packets terms.now.packet_limit) × IsRatio (ratio terms.now.least_num terms.now.least_den)) × (c ≡ config_of terms.now)) }
+    ensures { MatchOption result (¬ (AreNumbers terms.now)) (λ c. AreNumbers terms.now × (c ≡ config_of terms.now)) }
 {
     let least = Rate::new(terms.least_num, terms.least_den)?;
     let config = EndConfig::new(terms.in_flight, terms.packets, terms.packet_limit)?;
@@ -85,7 +79,7 @@ fn end_of(
     peer: &[u8],
     config: &HostConfig,
 ) -> Result<HostEnd, u32>
-    ensures { MatchResult result (λ e. AreTerms role own.now peer.now config.now × IsNewEnd (new_end (role_of role) (keys_of secret.now) own.now peer.now (config_of config.now)) e) (λ code. (code ≡ no_memory) ⊎ ((code ≡ argument) × (¬ AreTerms role own.now peer.now config.now))) }
+    ensures { MakesEnd role secret.now own.now peer.now config.now result }
 {
     let Some(role) = self::role(role) else {
         return Err(ARGUMENT);
@@ -154,7 +148,7 @@ pub extern "C" fn ilp_end_write(
     stream: u32,
     bytes: &[u8],
 ) -> u32
-    ensures { IfFits (is_byte stream) handle.old.state handle.new.state result (OnEnd handle.old.state handle.new.state result (λ old new. Answers old new result (calls.write old.state stream bytes.now))) }
+    ensures { OnEndIf (is_byte stream) handle.old.state handle.new.state result (λ old new. Answers old new result (calls.write old.state stream bytes.now)) }
 {
     let Ok(stream) = u8::try_from(stream) else {
         return ARGUMENT;
@@ -165,7 +159,7 @@ pub extern "C" fn ilp_end_write(
 /// Closes a stream cleanly.
 #[unsafe(no_mangle)]
 pub extern "C" fn ilp_end_close(alloc: Global, handle: &mut Handle, stream: u32) -> u32
-    ensures { IfFits (is_byte stream) handle.old.state handle.new.state result (OnEnd handle.old.state handle.new.state result (λ old new. Answers old new result (calls.close old.state stream))) }
+    ensures { OnEndIf (is_byte stream) handle.old.state handle.new.state result (λ old new. Answers old new result (calls.close old.state stream)) }
 {
     let Ok(stream) = u8::try_from(stream) else {
         return ARGUMENT;
@@ -176,7 +170,8 @@ pub extern "C" fn ilp_end_close(alloc: Global, handle: &mut Handle, stream: u32)
 /// Aborts a stream with a code other than 1.
 #[unsafe(no_mangle)]
 pub extern "C" fn ilp_end_abort(alloc: Global, handle: &mut Handle, stream: u32, reason: u32) -> u32
-    ensures { IfFits (is_byte stream) handle.old.state handle.new.state result (IfFits (is_abort reason) handle.old.state handle.new.state result (OnEnd handle.old.state handle.new.state result (λ old new. Answers old new result (calls.abort old.state stream reason)))) }
+    ensures { OnEndIfBoth (is_byte stream) (is_abort reason) handle.old.state handle.new.state result
+        (λ old new. Answers old new result (calls.abort old.state stream reason)) }
 {
     let Ok(stream) = u8::try_from(stream) else {
         return ARGUMENT;
@@ -193,7 +188,7 @@ pub extern "C" fn ilp_end_abort(alloc: Global, handle: &mut Handle, stream: u32,
 /// Offers this amount, in units, on a stream.
 #[unsafe(no_mangle)]
 pub extern "C" fn ilp_end_offer(alloc: Global, handle: &mut Handle, stream: u32, amount: u64) -> u32
-    ensures { IfFits (is_byte stream) handle.old.state handle.new.state result (OnEnd handle.old.state handle.new.state result (λ old new. Answers old new result (calls.offer old.state stream amount))) }
+    ensures { OnEndIf (is_byte stream) handle.old.state handle.new.state result (λ old new. Answers old new result (calls.offer old.state stream amount)) }
 {
     let Ok(stream) = u8::try_from(stream) else {
         return ARGUMENT;
@@ -209,7 +204,8 @@ pub extern "C" fn ilp_end_set_receive_max(
     stream: u32,
     amount: u64,
 ) -> u32
-    ensures { IfFits (is_byte stream) handle.old.state handle.new.state result (OnEnd handle.old.state handle.new.state result (λ old new. Answers old new result (calls.set_receive_max old.state stream amount))) }
+    ensures { OnEndIf (is_byte stream) handle.old.state handle.new.state result
+        (λ old new. Answers old new result (calls.set_receive_max old.state stream amount)) }
 {
     let Ok(stream) = u8::try_from(stream) else {
         return ARGUMENT;
@@ -230,7 +226,8 @@ pub extern "C" fn ilp_end_read(
     len: &mut usize,
     reason: &mut u64,
 ) -> u32
-    ensures { IfFits (is_byte stream) handle.old.state handle.new.state result (IfFits (nat_lt 0 max) handle.old.state handle.new.state result (OnEnd handle.old.state handle.new.state result (λ old new. Reads old new stream max result len.new reason.new))) }
+    ensures { OnEndIfBoth (is_byte stream) (nat_lt 0 max) handle.old.state handle.new.state result
+        (λ old new. Reads old new stream max result len.new reason.new) }
 {
     let Ok(stream) = u8::try_from(stream) else {
         return ARGUMENT;

@@ -2,7 +2,7 @@
 
 ghost use Rattle.std.specs.Prelude.{◌≡◌};
 ghost use Rattle.st_end.specs.Receiving.{t00_text};
-ghost use Rattle.ilpstream_c.specs.Handles.{OnEnd, IfMoment, Copies};
+ghost use Rattle.ilpstream_c.specs.Handles.{OnEnd, Copies, OnEndAt};
 ghost use Rattle.ilpstream_c.specs.Ends.{Sends, Receives, Sequence, Spends, Faults};
 
 use crate::end::on_end;
@@ -22,7 +22,7 @@ pub extern "C" fn ilp_end_send(
     flight: &mut u64,
     len: &mut usize,
 ) -> u32
-    ensures { IfMoment now handle.old.state handle.new.state result (OnEnd handle.old.state handle.new.state result (λ old new. Sends old new iv.now now result flight.new len.new)) }
+    ensures { OnEndAt now handle.old.state handle.new.state result (λ old new. Sends old new iv.now now result flight.new len.new) }
 {
     let Some(now) = Moment::new(now) else {
         return ARGUMENT;
@@ -125,7 +125,7 @@ pub extern "C" fn ilp_end_receive(
     now: i64,
     received: &mut HostReceived,
 ) -> u32
-    ensures { IfMoment now handle.old.state handle.new.state result (OnEnd handle.old.state handle.new.state result (λ old new. Receives old new bytes.now now result received.new)) }
+    ensures { OnEndAt now handle.old.state handle.new.state result (λ old new. Receives old new bytes.now now result received.new) }
 {
     let Some(now) = Moment::new(now) else {
         return ARGUMENT;

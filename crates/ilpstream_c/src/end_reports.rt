@@ -3,7 +3,7 @@
 ghost use Rattle.std.specs.Prelude.{◌≡◌, ◌≤◌, length, take, IfOk};
 ghost use Rattle.st_end.specs.Calls as calls;
 ghost use Rattle.st_end.specs.Totals as totals;
-ghost use Rattle.ilpstream_c.specs.Handles.{OnEnd, IfFits, is_byte};
+ghost use Rattle.ilpstream_c.specs.Handles.{OnEnd, is_byte, OnEndIf};
 ghost use Rattle.ilpstream_c.specs.Failures.{IsFailure, SaysFailure, kind_number};
 ghost use Rattle.ilpstream_c.specs.Ends.{Says, SaysRoom, Lists, ready_streams, open_streams, SaysTotals};
 
@@ -57,7 +57,7 @@ pub extern "C" fn ilp_end_room(
     stream: u32,
     room: &mut usize,
 ) -> u32
-    ensures { IfFits (is_byte stream) handle.old.state handle.new.state result (OnEnd handle.old.state handle.new.state result (λ old new. SaysRoom old new stream result room.new)) }
+    ensures { OnEndIf (is_byte stream) handle.old.state handle.new.state result (λ old new. SaysRoom old new stream result room.new) }
 {
     let Ok(stream) = u8::try_from(stream) else {
         return ARGUMENT;
@@ -130,7 +130,8 @@ pub extern "C" fn ilp_end_has_stream(
     stream: u32,
     answer: &mut u32,
 ) -> u32
-    ensures { IfFits (is_byte stream) handle.old.state handle.new.state result (OnEnd handle.old.state handle.new.state result (λ old new. Says old new result answer.new (calls.has_stream old.state stream))) }
+    ensures { OnEndIf (is_byte stream) handle.old.state handle.new.state result
+        (λ old new. Says old new result answer.new (calls.has_stream old.state stream)) }
 {
     let Ok(stream) = u8::try_from(stream) else {
         return ARGUMENT;
@@ -149,7 +150,7 @@ pub extern "C" fn ilp_end_settled(
     stream: u32,
     answer: &mut u32,
 ) -> u32
-    ensures { IfFits (is_byte stream) handle.old.state handle.new.state result (OnEnd handle.old.state handle.new.state result (λ old new. Says old new result answer.new (totals.settled old.state stream))) }
+    ensures { OnEndIf (is_byte stream) handle.old.state handle.new.state result (λ old new. Says old new result answer.new (totals.settled old.state stream)) }
 {
     let Ok(stream) = u8::try_from(stream) else {
         return ARGUMENT;

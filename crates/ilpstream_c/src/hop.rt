@@ -1,14 +1,11 @@
 //! Calls on a hop: the connector between two neighbours (RFC 0027).
 
-ghost use Rattle.std.specs.Prelude.{◌≡◌, ◌⊎◌, ◌&&◌, ◌<◌, true, false, length, map, nat_lt, pos, Some, None, Err, IfOk, IsOk, MatchBool, MatchResult};
-ghost use Rattle.st_oer.specs.Address.{is_address};
-ghost use Rattle.st_hop.specs.Books.{AreBooks, restored};
+ghost use Rattle.std.specs.Prelude.{◌≡◌, ◌<◌, true, false, length, nat_lt, pos, Some, None, Err, IfOk, IsOk, MatchBool};
 ghost use Rattle.st_hop.specs.Refusals.{t00_text};
-ghost use Rattle.st_hop.specs.Table.{is_table, new_hop};
-ghost use Rattle.host_objects.specs.Codes.{done, argument};
-ghost use Rattle.host_objects.specs.Hops.{IsNewHop, IsRestarted};
-ghost use Rattle.ilpstream_c.specs.Handles.{OnHop, IfMoment, Copies};
-ghost use Rattle.ilpstream_c.specs.Hops.{IsHopMade, IsHopRestored, WhyNoHop, HopArrives, Closes, Settles, Abandons, Balances, AreBalances, TellsBooking, IsBooking, IsNoBooking, account_of, ways_of, are_routes, hop_no_memory, bad_table};
+ghost use Rattle.host_objects.specs.Codes.{done};
+ghost use Rattle.host_objects.specs.Hops.{IsRestarted};
+ghost use Rattle.ilpstream_c.specs.Handles.{OnHop, Copies, OnHopAt};
+ghost use Rattle.ilpstream_c.specs.Hops.{IsHopMade, IsHopRestored, HopArrives, Closes, Settles, Abandons, Balances, AreBalances, TellsBooking, IsBooking, IsNoBooking, MakesHop, RestoresHop};
 
 use crate::handle::{copy_out, is_empty, put_new};
 use crate::table::{HostAccount, HostRoute, table_of};
@@ -42,7 +39,7 @@ fn hop_of(
     text: &[u8],
     routes: &[HostRoute],
 ) -> Result<HostHop, u32>
-    ensures { MatchResult result (λ h. (is_table own.now (map account_of accounts.now) (ways_of text.now routes.now) ≡ true) × ((are_routes text.now routes.now ≡ true) × IsNewHop (new_hop own.now (map account_of accounts.now) (ways_of text.now routes.now)) h)) (λ code. (code ≡ hop_no_memory) ⊎ (((code ≡ argument) × (is_address own.now && are_routes text.now routes.now ≡ false)) ⊎ ((code ≡ bad_table) × (is_table own.now (map account_of accounts.now) (ways_of text.now routes.now) ≡ false)))) }
+    ensures { MakesHop own.now accounts.now text.now routes.now result }
 {
     let table = table_of(alloc, own, accounts, text, routes)?;
     match HostHop::new(alloc, table.own, &table.accounts, &table.routes) {
@@ -88,7 +85,7 @@ fn restored_of(
     dues: &[u64],
     next: u64,
 ) -> Result<HostHop, u32>
-    ensures { MatchResult result (λ h. (are_routes text.now routes.now ≡ true) × (AreBooks (map account_of accounts.now) claims.now dues.now × IsNewHop (restored (new_hop own.now (map account_of accounts.now) (ways_of text.now routes.now)) claims.now dues.now next) h)) (λ code. WhyNoHop own.now accounts.now text.now routes.now claims.now dues.now code) }
+    ensures { RestoresHop own.now accounts.now text.now routes.now claims.now dues.now next result }
 {
     let table = table_of(alloc, own, accounts, text, routes)?;
     match HostHop::restored(
@@ -172,7 +169,7 @@ pub extern "C" fn ilp_hop_arrive(
     now: i64,
     arrived: &mut HostArrived,
 ) -> u32
-    ensures { IfMoment now handle.old.state handle.new.state result (OnHop handle.old.state handle.new.state result (λ old new. HopArrives old new account bytes.now now result arrived.new)) }
+    ensures { OnHopAt now handle.old.state handle.new.state result (λ old new. HopArrives old new account bytes.now now result arrived.new) }
 {
     let Some(now) = Moment::new(now) else {
         return ARGUMENT;
@@ -252,7 +249,7 @@ pub extern "C" fn ilp_hop_books(
     now: i64,
     booking: &mut HostBooking,
 ) -> u32
-    ensures { IfMoment now handle.old.state handle.new.state result (OnHop handle.old.state handle.new.state result (λ old new. TellsBooking old new ticket bytes.now now result booking.new)) }
+    ensures { OnHopAt now handle.old.state handle.new.state result (λ old new. TellsBooking old new ticket bytes.now now result booking.new) }
 {
     let Some(now) = Moment::new(now) else {
         return ARGUMENT;
@@ -284,7 +281,7 @@ pub extern "C" fn ilp_hop_settle(
     now: i64,
     len: &mut usize,
 ) -> u32
-    ensures { IfMoment now handle.old.state handle.new.state result (OnHop handle.old.state handle.new.state result (λ old new. Settles old new ticket bytes.now now result len.new)) }
+    ensures { OnHopAt now handle.old.state handle.new.state result (λ old new. Settles old new ticket bytes.now now result len.new) }
 {
     let Some(now) = Moment::new(now) else {
         return ARGUMENT;
@@ -356,7 +353,8 @@ pub struct HostBalances {
 
 /// The balances of an account.
 fn balances_of(hop: &HostHop, account: usize) -> Result<HostBalances, HopError>
-    ensures { MatchBool (nat_lt account (length hop.now.state.accounts)) (IfOk result (AreBalances hop.now account) × IsOk result) (result ≡ Err HopError.NoAccount) }
+    ensures { MatchBool (nat_lt account (length hop.now.state.accounts))
+        (IfOk result (AreBalances hop.now account) × IsOk result) (result ≡ Err HopError.NoAccount) }
 {
     Ok(HostBalances {
         claims: hop.state.claims(account)?,

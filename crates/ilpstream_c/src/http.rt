@@ -1,6 +1,6 @@
 //! Calls on a message of ILP over HTTP (RFC 0035), and the texts that are sent.
 
-ghost use Rattle.std.specs.Prelude.{◌≡◌, ◌⊎◌, ◌&&◌, true, false, length, map, MatchOption, MatchResult, string_bytes};
+ghost use Rattle.std.specs.Prelude.{◌≡◌, ◌⊎◌, ◌&&◌, true, false, map, MatchOption, MatchResult, string_bytes};
 ghost use Rattle.st_http.specs.Texts as texts;
 ghost use Rattle.host_objects.specs.Codes.{argument};
 ghost use Rattle.ilpstream_c.specs.Http.{OnMessage, IsRequestMade, IsResponseMade, Takes, WritesText, IfText, tokens_of, are_tokens, is_field, is_refusal, status_of};
@@ -45,7 +45,8 @@ pub struct HostReading {
 /// The bearer tokens, which follow each other in a text. Fails with `ARGUMENT` if the text is not that of the tokens, or one
 /// of them is not UTF-8; and with 87 if memory is refused.
 fn tokens_of(alloc: Global, text: &[u8], lengths: &[usize]) -> Result<Vec<String>, u32>
-    ensures { MatchResult result (λ kept. (are_tokens text.now lengths.now ≡ true) × (map string_bytes kept.items ≡ tokens_of text.now lengths.now)) (λ code. (code ≡ 87) ⊎ ((code ≡ argument) × (are_tokens text.now lengths.now ≡ false))) }
+    ensures { MatchResult result (λ kept. (are_tokens text.now lengths.now ≡ true) × (map string_bytes kept.items ≡ tokens_of text.now lengths.now))
+        (λ code. (code ≡ 87) ⊎ ((code ≡ argument) × (are_tokens text.now lengths.now ≡ false))) }
 {
     let mut kept = Vec::new(alloc);
     let mut rest = text;
@@ -183,7 +184,8 @@ pub extern "C" fn ilp_request_text(
     out: &mut [u8],
     len: &mut usize,
 ) -> u32
-    ensures { IfText (is_field host.now && is_field token.now) out.old out.new result (WritesText (texts.request_text host.now token.now body.now) out.old out.new result len.new) }
+    ensures { IfText (is_field host.now && is_field token.now) out.old out.new result
+        (WritesText (texts.request_text host.now token.now body.now) out.old out.new result len.new) }
 {
     let Some(host) = field(host) else {
         return ARGUMENT;

@@ -1,6 +1,6 @@
 //! ILP packets: what bytes say, and the bytes that are written. Nothing is kept.
 
-ghost use Rattle.std.specs.Prelude.{◌≡◌, ◌-◌, length, replicate, Ok, Err, MatchResult};
+ghost use Rattle.std.specs.Prelude.{◌≡◌, ◌-◌, length, Ok, Err, MatchResult};
 ghost use Rattle.st_oer.specs.Spelling.{length_bytes};
 ghost use Rattle.st_ilp.specs.Spelling.{answer_text};
 ghost use Rattle.st_ilp.specs.Packets.{PreparePacket, AnswerPacket, Fulfilled, Rejected};
@@ -188,7 +188,8 @@ pub extern "C" fn ilp_prepare_write(
     out: &mut [u8],
     len: &mut usize,
 ) -> u32
-    ensures { WritesPrepare (record { amount = amount; expiry = expiry; condition = condition.now; destination = destination.now; payload = payload.now }) out.old out.new result len.new }
+    ensures { WritesPrepare (record { amount = amount; expiry = expiry; condition = condition.now; destination = destination.now; payload = payload.now })
+        out.old out.new result len.new }
 {
     let Some(destination) = utf8(destination) else {
         return ARGUMENT;

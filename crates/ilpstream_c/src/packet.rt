@@ -1,9 +1,9 @@
 //! Calls on a plain STREAM packet (RFC 0029), whose frames are added and read one by one.
 
-ghost use Rattle.std.specs.Prelude.{◌≡◌, ◌⊎◌, true, false, length, MatchResult};
+ghost use Rattle.std.specs.Prelude.{◌≡◌, true, MatchResult};
 ghost use Rattle.host_objects.specs.Packets.{IsReadPacket, is_kind};
 ghost use Rattle.ilpstream_c.specs.Frames as frames;
-ghost use Rattle.ilpstream_c.specs.Packets.{OnPacket, IsPacketMade, IsPacketRead, RefusesToRead, Heads, IfFrame, Pushes, Shows, Puts};
+ghost use Rattle.ilpstream_c.specs.Packets.{OnPacket, IsPacketMade, IsPacketRead, RefusesToRead, Heads, Pushes, Shows, Puts, OnPacketWith};
 
 use crate::frame::{HostFrame, data_of, fields_of, frame_given};
 use crate::handle::{is_empty, put_new};
@@ -130,7 +130,7 @@ pub extern "C" fn ilp_packet_push(
     frame: &HostFrame,
     bytes: &[u8],
 ) -> u32
-    ensures { IfFrame (frames.frame_given frame.now bytes.now) handle.old.state handle.new.state result (λ k. OnPacket handle.old.state handle.new.state result (λ old new. Pushes old new k result)) }
+    ensures { OnPacketWith (frames.frame_given frame.now bytes.now) handle.old.state handle.new.state result (λ k old new. Pushes old new k result) }
 {
     let Some(frame) = frame_given(frame, bytes) else {
         return ARGUMENT;

@@ -1,10 +1,9 @@
 //! The table of a hop, as a host gives it.
 
-ghost use Rattle.std.specs.Prelude.{◌≡◌, ◌⊎◌, ◌&&◌, true, false, map, IfOk, MatchOption, MatchResult};
+ghost use Rattle.std.specs.Prelude.{◌≡◌, ◌&&◌, true, false, map, IfOk, MatchOption, MatchResult};
 ghost use Rattle.st_oer.specs.Address.{is_address};
 ghost use Rattle.st_hop.specs.Seen.{way_seen};
-ghost use Rattle.host_objects.specs.Codes.{argument};
-ghost use Rattle.ilpstream_c.specs.Hops.{account_of, way_of, ways_of, is_rate, are_routes, hop_no_memory};
+ghost use Rattle.ilpstream_c.specs.Hops.{account_of, way_of, ways_of, is_rate, are_routes, IsRefusedUnless, IsTableOf};
 
 use crate::arguments::address;
 use host_objects::ARGUMENT;
@@ -65,7 +64,8 @@ fn route_of<'t>(prefix: &'t str, route: &HostRoute) -> Option<Route<'t>>
 /// The routes, for st_hop, whose prefixes follow each other in a text. Fails with `ARGUMENT` if the text is not that of
 /// the prefixes, one of them is not an ILP address, or a rate has a 0; and with 35 if memory is refused.
 fn routes_of<'t>(alloc: Global, text: &'t [u8], routes: &[HostRoute]) -> Result<Vec<Route<'t>>, u32>
-    ensures { MatchResult result (λ kept. (are_routes text.now routes.now ≡ true) × (map way_seen kept.items ≡ ways_of text.now routes.now)) (λ code. (code ≡ hop_no_memory) ⊎ ((code ≡ argument) × (are_routes text.now routes.now ≡ false))) }
+    ensures { MatchResult result (λ kept. (are_routes text.now routes.now ≡ true) × (map way_seen kept.items ≡ ways_of text.now routes.now))
+        (λ code. IsRefusedUnless (are_routes text.now routes.now) code) }
 {
     let mut kept = Vec::new(alloc);
     let mut rest = text;
@@ -109,7 +109,8 @@ pub(crate) fn table_of<'t>(
     text: &'t [u8],
     routes: &[HostRoute],
 ) -> Result<Table<'t>, u32>
-    ensures { MatchResult result (λ t. (are_routes text.now routes.now ≡ true) × ((t.own.now ≡ own.now) × ((t.accounts.items ≡ map account_of accounts.now) × (map way_seen t.routes.items ≡ ways_of text.now routes.now)))) (λ code. (code ≡ hop_no_memory) ⊎ ((code ≡ argument) × (is_address own.now && are_routes text.now routes.now ≡ false))) }
+    ensures { MatchResult result (λ t. IsTableOf own.now accounts.now text.now routes.now t)
+        (λ code. IsRefusedUnless (is_address own.now && are_routes text.now routes.now) code) }
 {
     let Some(own) = address(own) else {
         return Err(ARGUMENT);

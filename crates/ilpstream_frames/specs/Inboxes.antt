@@ -1,6 +1,6 @@
 -- The inboxes of a connection's streams, and what a packet does to them.
 use Rattle.std.specs.Prelude.{ℕ, ◌+◌, ◌-◌, nat_le, ◌&&◌, Bool, if◌then◌else◌, List, [], ◌∷◌, ◌++◌, replicate, slice_index_or, slice_set, Option, Some, None, Result, Ok, Err}
-use Rattle.std.specs.Option.{unwrap_or}
+use Rattle.std.specs.Option.{unwrap_or, option_or}
 use Rattle.st_reassembly.specs.Held.{Held, nothing_held}
 use Rattle.st_reassembly.specs.Inserting.{inserted}
 use Rattle.st_reassembly.specs.Run.{run}
@@ -13,6 +13,10 @@ use Rattle.ilpstream_frames.specs.Texts.{stream_text}
 -- what is buffered of stream n at place n - 1, and `None` there if no frame named it
 abbrev pub Inboxes : Type 0
 Inboxes = List (Option Held)
+
+-- the draft at a place, else the inbox there, else an empty one
+abbrev pub draft_at : (drafts current : Inboxes) → (place : ℕ) → Held
+draft_at drafts current place = unwrap_or (option_or (slice_index_or drafts place None) (slice_index_or current place None)) nothing_held
 
 -- no stream was named
 abbrev pub opening : Inboxes

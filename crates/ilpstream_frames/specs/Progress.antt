@@ -70,3 +70,7 @@ CoversLines (Some input) before now s = (done : List ℕ) × Appends before now 
 abbrev pub AfterTurn : Bool → Option (List ℕ) → Option (List ℕ) → Option (List ℕ) → Option (List ℕ) → State → Type 0
 AfterTurn false input left before now s = Covers input left before now s
 AfterTurn true input left before now s = CoversLines input before now s
+
+-- what was said is appended, and this holds of it
+abbrev pub SaysMore : (old new : List ℕ) → (List ℕ → Type 0) → Type 0
+SaysMore old new Holds = (said : List ℕ) × (new ≡ old ++ said) × Holds said

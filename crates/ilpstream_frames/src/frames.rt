@@ -1,17 +1,17 @@
 //! The command `frames`: it reads lines of hexadecimal digits, and writes refusals and the longest run of each stream.
 
-ghost use Rattle.std.specs.Prelude.{◌≡◌, ◌≢◌, ◌⊎◌, ◌||◌, true, false, is_some, take, ◌+◌, ◌^◌, ◌<◌, ◌≤◌, ◌++◌, ◌∷◌, ◌==◌, [], ℕ, List, Option, OnOk, OnErr, IfOk, IfErr, IfSome, length, slice_index_or, slice_set, None};
+ghost use Rattle.std.specs.Prelude.{◌≡◌, ◌≢◌, ◌||◌, true, false, is_some, take, ◌+◌, ◌^◌, ◌<◌, ◌≤◌, ◌++◌, ◌∷◌, ◌==◌, [], ℕ, List, Option, OnOk, OnErr, IfOk, IfErr, IfSome, length, slice_index_or, slice_set, None};
 ghost use Rattle.std.specs.Io.KnownBytes.{Appends};
 ghost use Rattle.std.specs.List.{All};
 ghost use Rattle.std.specs.Str.Lines.{strip_carriage_return};
 ghost use Rattle.st_devices.specs.Faults.{count_after};
 ghost use Rattle.st_devices.specs.Tallies.{TakesTurns, device_of, tally_of};
 ghost use Rattle.st_frames.specs.Reading.{packet_at};
-ghost use Rattle.ilpstream_frames.specs.Answers.{IsAnswer, by_packet, prepare};
+ghost use Rattle.ilpstream_frames.specs.Answers.{by_packet, prepare};
 ghost use Rattle.ilpstream_frames.specs.Endings.{has_refusal, fault_of, reader_faults, writer_faults, BeginsAnswer, HasEnded, RunsFrames, Says, SpendsTurns, StaysFlushed, TellsFault, WritesAnswer, WritesPart};
 ghost use Rattle.ilpstream_frames.specs.Inboxes.{run_line, runs_text};
 ghost use Rattle.ilpstream_frames.specs.LineSoFar.{StandsFor, no_line, text_of_line};
-ghost use Rattle.ilpstream_frames.specs.Progress.{at_start, told, HasPacketEffect, HasEffect, AnswersLine, AnswersPiece, MayBegin, MayFollow, Covers, CoversLines, AfterTurn};
+ghost use Rattle.ilpstream_frames.specs.Progress.{at_start, told, HasPacketEffect, HasEffect, AnswersLine, AnswersPiece, MayBegin, MayFollow, Covers, CoversLines, AfterTurn, SaysMore};
 
 use crate::digits::{decode, without_return};
 use crate::error::{Fault, LineError};
@@ -157,7 +157,7 @@ impl<A: Allocator + Copy> Reader<A> {
     /// Answers a line that one read gave whole, and begins the next.
     fn take_line(&mut self, out: &mut Vec<u8, A>, line: &[u8]) -> Result<(), AllocError>
         requires { self.old.index + 1 < 2 ^ 64 }
-        ensures answered { OnOk result ((said : List ℕ) × (out.new.items ≡ out.old.items ++ said) × AnswersLine self.old (strip_carriage_return line.now) said self.new) }
+        ensures answered { OnOk result (SaysMore out.old.items out.new.items (λ said. AnswersLine self.old (strip_carriage_return line.now) said self.new)) }
         ensures unchanged { OnErr result (out.new.items ≡ out.old.items) }
         ensures next { OnOk result ((self.new.line ≡ no_line) × (self.new.index ≡ self.old.index + 1)) }
     {
@@ -183,7 +183,7 @@ impl<A: Allocator + Copy> Reader<A> {
     fn end_with(&mut self, out: &mut Vec<u8, A>, last: &[u8]) -> Result<(), AllocError>
         requires last { All (λ b. (b == 10) ≡ false) last.now }
         requires budget { self.old.index + self.old.line.count + length last.now + 1 < 2 ^ 64 }
-        ensures answered { OnOk result ((said : List ℕ) × (out.new.items ≡ out.old.items ++ said) × AnswersPiece self.old (last.now ++ 10 ∷ []) said self.new) }
+        ensures answered { OnOk result (SaysMore out.old.items out.new.items (λ said. AnswersPiece self.old (last.now ++ 10 ∷ []) said self.new)) }
         ensures unchanged { OnErr result (out.new.items ≡ out.old.items) }
         ensures next { OnOk result ((self.new.line ≡ no_line) × (self.new.index ≡ self.old.index + 1)) }
     {
@@ -200,7 +200,7 @@ impl<A: Allocator + Copy> Reader<A> {
     fn take_part(&mut self, out: &mut Vec<u8, A>, bytes: &[u8]) -> Result<usize, AllocError>
         requires some { 0 < length bytes.now }
         requires budget { self.old.index + self.old.line.count + length bytes.now < 2 ^ 64 }
-        ensures answered { IfOk result (λ n. (said : List ℕ) × (out.new.items ≡ out.old.items ++ said) × AnswersPiece self.old (take n bytes.now) said self.new) }
+        ensures answered { IfOk result (λ n. SaysMore out.old.items out.new.items (λ said. AnswersPiece self.old (take n bytes.now) said self.new)) }
         ensures unchanged { OnErr result (out.new.items ≡ out.old.items) }
         ensures taken { IfOk result (λ n. (0 < n) × (n ≤ length bytes.now)) }
         ensures bounded { IfOk result (λ n. self.new.index + self.new.line.count ≤ self.old.index + self.old.line.count + n) }
@@ -295,8 +295,10 @@ fn answer_lines<A: Allocator + Copy, R: Read, W: Write>(
 ) -> Result<(), Fault>
     requires start { lines.old ≡ at_start }
     requires budget { turns.old < 2 ^ 32 }
-    ensures covers { OnOk result (CoversLines (R.remaining (device_of reader.old)) (W.contents (device_of writer.old)) (W.contents (device_of writer.new)) lines.new) }
-    ensures part { OnErr result (IfSome (R.remaining (device_of reader.old)) (λ input. BeginsAnswer input (W.contents (device_of writer.old)) (W.contents (device_of writer.new)))) }
+    ensures covers { OnOk result (CoversLines (R.remaining (device_of reader.old))
+        (W.contents (device_of writer.old)) (W.contents (device_of writer.new)) lines.new) }
+    ensures part { OnErr result (IfSome (R.remaining (device_of reader.old)) (λ input.
+        BeginsAnswer input (W.contents (device_of writer.old)) (W.contents (device_of writer.new)))) }
     ensures reader_faults { (tally_of reader.new).faults ≡ reader_faults (fault_of result) (tally_of reader.old).faults }
     ensures writer_faults { (tally_of writer.new).faults ≡ writer_faults (fault_of result) (tally_of writer.old).faults }
     ensures flushed { OnOk result (StaysFlushed (tally_of writer.old) (tally_of writer.new)) }
@@ -328,8 +330,10 @@ fn put_run<A: Allocator + Copy, W: Write>(
     ensures flushed { OnOk result (StaysFlushed (tally_of writer.old) (tally_of writer.new)) }
     ensures out_of_turns { IfErr result (λ e. (e ≡ Fault.Turns) → turns.new ≡ 0) }
     ensures turns { TakesTurns (tally_of writer.old) (tally_of writer.new) turns.old turns.new }
-    ensures whole { OnOk result (Appends (W.contents (device_of writer.old)) (W.contents (device_of writer.new)) (run_line (place + 1) (slice_index_or streams.old place None))) }
-    ensures part { WritesPart (run_line (place + 1) (slice_index_or streams.old place None)) (W.contents (device_of writer.old)) (W.contents (device_of writer.new)) }
+    ensures whole { OnOk result (Appends (W.contents (device_of writer.old)) (W.contents (device_of writer.new))
+        (run_line (place + 1) (slice_index_or streams.old place None))) }
+    ensures part { WritesPart (run_line (place + 1) (slice_index_or streams.old place None))
+        (W.contents (device_of writer.old)) (W.contents (device_of writer.new)) }
 {
     if let Some(bytes) = streams.take_run(place)? {
         let text = stream_line(alloc, place + 1, &bytes)?;
@@ -377,7 +381,8 @@ pub fn answer_frames<A: Allocator + Copy, R: Read, W: Write>(
     requires { turns.old < 2 ^ 32 }
     ensures answered { IfOk result (λ lines. IfSome (R.remaining (device_of reader.old)) (λ input.
         WritesAnswer input (has_refusal lines) (W.contents (device_of writer.old)) (W.contents (device_of writer.new)))) }
-    ensures part { IfSome (R.remaining (device_of reader.old)) (λ input. BeginsAnswer input (W.contents (device_of writer.old)) (W.contents (device_of writer.new))) }
+    ensures part { IfSome (R.remaining (device_of reader.old)) (λ input.
+        BeginsAnswer input (W.contents (device_of writer.old)) (W.contents (device_of writer.new))) }
     ensures reader_faults { (tally_of reader.new).faults ≡ reader_faults (fault_of result) (tally_of reader.old).faults }
     ensures writer_faults { (tally_of writer.new).faults ≡ writer_faults (fault_of result) (tally_of writer.old).faults }
     ensures flushed { OnOk result (StaysFlushed (tally_of writer.old) (tally_of writer.new)) }

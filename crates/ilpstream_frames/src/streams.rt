@@ -1,6 +1,6 @@
 //! The inboxes of the streams of a connection.
 
-ghost use Rattle.std.specs.Prelude.{◌≡◌, ◌⊎◌, ◌<◌, ◌≤◌, ◌-◌, [], ◌∷◌, true, false, ℕ, List, length, replicate, slice_index_or, slice_set, None, Some, Ok, IfOk, IfErr, OnOk, OnErr, IsOkUnless, MatchOption};
+ghost use Rattle.std.specs.Prelude.{◌≡◌, ◌<◌, ◌-◌, [], ◌∷◌, true, false, ℕ, List, length, slice_index_or, slice_set, None, Some, Ok, IfOk, IfErr, OnOk, OnErr, IsOkUnless, MatchOption};
 ghost use Rattle.std.specs.Option.{option_map, option_or, unwrap_or};
 ghost use Rattle.st_frames.specs.Frames.{Known};
 ghost use Rattle.st_frames.specs.Reading.{packet_at};
@@ -8,7 +8,7 @@ ghost use Rattle.st_frames.specs.Seen.{seen};
 ghost use Rattle.st_reassembly.specs.Held.{nothing_held};
 ghost use Rattle.st_reassembly.specs.Run.{run};
 ghost use Rattle.ilpstream_frames.specs.Answers.{prepare, by_packet};
-ghost use Rattle.ilpstream_frames.specs.Inboxes.{opening, is_stream, after_piece, after_frame, frames_from, after_frames, after_packet};
+ghost use Rattle.ilpstream_frames.specs.Inboxes.{opening, is_stream, after_piece, after_frame, after_frames, after_packet, draft_at};
 ghost use Rattle.ilpstream_frames.specs.Drafts.{over, StandFor, IsPieceError, IsPacketError};
 
 use crate::error::LineError;
@@ -145,7 +145,7 @@ impl<A: Allocator + Copy> Streams<A> {
         requires place { place < 64 }
         ensures only_memory { IsOkUnless result InboxError.NoMemory }
         ensures taken { drafts.new.items ≡ slice_set drafts.old.items place None }
-        ensures draft { IfOk result (λ inbox. inbox ≡ unwrap_or (option_or (slice_index_or drafts.old.items place None) (slice_index_or self.now place None)) nothing_held) }
+        ensures draft { IfOk result (λ inbox. inbox ≡ draft_at drafts.old.items self.now place) }
     {
         match drafts[place].take() {
             Some(inbox) => Ok(inbox),

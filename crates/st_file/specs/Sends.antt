@@ -5,8 +5,6 @@ use Rattle.st_file.specs.Errors.{counted}
 use Rattle.st_file.specs.Sinks.{Taken}
 use Rattle.st_file.specs.declared.error.FileError.{FileError}
 use Rattle.st_file.specs.declared.error.FileError.TheVariants.{ReadFault, WriteFault, Aborted, Turns, NoMemory, Closed}
-use Rattle.st_devices.specs.declared.counted.Counting.{Counting}
-use Rattle.st_devices.specs.Tallies.{device_of}
 
 -- a reader's remaining bytes before and after, and what a sink had accepted before and after
 pub record Sending : Type 0 where
@@ -14,11 +12,6 @@ pub record Sending : Type 0 where
   pub after : Option (List ℕ)
   pub old : Taken
   pub new : Taken
-
--- what a device had and has left by `remaining`, and what a sink had and has accepted by `taken`
-abbrev pub sending_of : {D K : Type 0} → (remaining : D → Option (List ℕ)) → (taken : K → Taken) → (reader_old reader_new : Counting D) → (old new : K) → Sending
-sending_of remaining taken reader_old reader_new old new =
-    record { before = remaining (device_of reader_old); after = remaining (device_of reader_new); old = taken old; new = taken new }
 
 -- the sink accepted n bytes of the reader, and these others were read and not accepted
 abbrev pub Sent : Sending → ℕ → List ℕ → Type 0

@@ -2,7 +2,7 @@
 
 ghost use Rattle.std.specs.Prelude.{◌≡◌, ◌<◌, IfOk, IfErr, IsOk};
 ghost use Rattle.st_file.specs.Errors.{IsTurns, faults_reported};
-ghost use Rattle.st_file.specs.Sends.{ExplainsSend, PutsEnd, PutsPiece, ReadsPiece, SentAll, sending_of};
+ghost use Rattle.st_file.specs.Sends.{ExplainsSend, PutsEnd, PutsPiece, ReadsPiece, SentAll};
 ghost use Rattle.st_file.specs.Spending.{SpendsTurns, TakesAsks};
 ghost use Rattle.st_devices.specs.Tallies.{TakesTurns, device_of, tally_of};
 
@@ -107,8 +107,10 @@ pub fn send_all<R: Read, K: Sink<Vec<u8, A>>, A: Allocator + Copy>(
     sink: &mut K,
     turns: u64,
 ) -> Result<u64, FileError>
-    ensures all { IfOk result (SentAll (sending_of R.remaining K.taken reader.old reader.new sink.old sink.new)) }
-    ensures why { IfErr result (ExplainsSend (sending_of R.remaining K.taken reader.old reader.new sink.old sink.new)) }
+    ensures all { IfOk result (SentAll
+        (record { before = R.remaining (device_of reader.old); after = R.remaining (device_of reader.new); old = K.taken sink.old; new = K.taken sink.new })) }
+    ensures why { IfErr result (ExplainsSend
+        (record { before = R.remaining (device_of reader.old); after = R.remaining (device_of reader.new); old = K.taken sink.old; new = K.taken sink.new })) }
     ensures faults { (tally_of reader.new).faults ≡ faults_reported result (tally_of reader.old).faults }
     ensures turns { SpendsTurns result (tally_of reader.old) (tally_of reader.new) (K.taken sink.old).calls (K.taken sink.new).calls turns }
 {
