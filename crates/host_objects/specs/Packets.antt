@@ -30,17 +30,17 @@ is_kind n = nat_le 12 n && nat_le n 14
 
 -- a frame's value
 abbrev pub kept : KeptFrame → Known
-kept (ConnectionClose code message) = known.ConnectionClose code (string_bytes message)
-kept (ConnectionNewAddress address) = known.ConnectionNewAddress (string_bytes address)
-kept (ConnectionMaxData max_offset) = known.ConnectionMaxData max_offset
-kept (ConnectionDataBlocked max_offset) = known.ConnectionDataBlocked max_offset
-kept (StreamClose stream code message) = known.StreamClose stream code (string_bytes message)
+kept (ConnectionClose code message) = known.CloseFrame (known.ConnectionClose code (string_bytes message))
+kept (ConnectionNewAddress address) = known.OtherFrame (known.ConnectionNewAddress (string_bytes address))
+kept (ConnectionMaxData max_offset) = known.LimitFrame (known.ConnectionMaxData max_offset)
+kept (ConnectionDataBlocked max_offset) = known.BlockedFrame (known.ConnectionDataBlocked max_offset)
+kept (StreamClose stream code message) = known.CloseFrame (known.StreamClose stream code (string_bytes message))
 kept (StreamMoney stream shares) = known.StreamMoney stream shares
-kept (StreamMaxMoney stream receive_max total_received) = known.StreamMaxMoney stream receive_max total_received
-kept (StreamMoneyBlocked stream send_max total_sent) = known.StreamMoneyBlocked stream send_max total_sent
+kept (StreamMaxMoney stream receive_max total_received) = known.LimitFrame (known.StreamMaxMoney stream receive_max total_received)
+kept (StreamMoneyBlocked stream send_max total_sent) = known.BlockedFrame (known.StreamMoneyBlocked stream send_max total_sent)
 kept (StreamData stream offset bytes) = known.StreamData stream offset bytes.items
-kept (StreamMaxData stream max_offset) = known.StreamMaxData stream max_offset
-kept (StreamDataBlocked stream max_offset) = known.StreamDataBlocked stream max_offset
+kept (StreamMaxData stream max_offset) = known.LimitFrame (known.StreamMaxData stream max_offset)
+kept (StreamDataBlocked stream max_offset) = known.BlockedFrame (known.StreamDataBlocked stream max_offset)
 
 -- a frame with its index
 abbrev pub placed : PlacedFrame → ℕ × Known
