@@ -1,5 +1,5 @@
 -- The threads of a connector and the requests that they claim.
-use Rattle.std.specs.Prelude.{⊤, ◌≡◌, ◌⊎◌, ℕ, ◌+◌, ◌-◌, ◌<◌, ◌≤◌, Bool, true, false, not, ◌&&◌, if◌then◌else◌, is_none, List, slice_index, slice_set, Option, Some, None, IsNone, IsSome}
+use Rattle.std.specs.Prelude.{⊤, ◌≡◌, ◌⊎◌, ℕ, ◌+◌, ◌-◌, ◌<◌, ◌≤◌, Bool, true, false, not, ◌&&◌, if◌then◌else◌, is_none, List, slice_index, slice_set, Option, Some, None, IsNone, IsSome, ◌^◌, replicate, unwrap_or}
 use Rattle.std.specs.Option.{option_or}
 use Rattle.st_devices.specs.Faults.{count_after}
 use Rattle.ilpstream_connector.specs.declared.roster.Failed.{Failed}
@@ -44,6 +44,24 @@ pub record Roster : Type 0 where
   pub endless : Bool
   pub stopped : Bool
   pub fault : Option TransferError
+
+-- no threads, this number of requests or any, and this number of accounts
+abbrev pub empty_roster : (requests : Option ℕ) → (accounts : ℕ) → Roster
+empty_roster requests accounts = record {
+  left = unwrap_or requests (2 ^ 64 - 1);
+  coming = 0;
+  accepting = 0;
+  busy = 0;
+  sending = replicate accounts 0;
+  spent = 0;
+  unserved = 0;
+  begun = 0;
+  failed = 0;
+  refused = false;
+  endless = is_none requests;
+  stopped = false;
+  fault = None;
+}
 
 -- all threads
 abbrev pub threads_of : Roster → ℕ

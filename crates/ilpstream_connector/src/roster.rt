@@ -1,8 +1,8 @@
 //! How many threads of a connector accept, how many requests they may still accept, and which of them may send.
 
-ghost use Rattle.std.specs.Prelude.{◌≡◌, ◌⊎◌, ◌+◌, ◌-◌, ◌^◌, ◌<◌, ◌↔◌, ℕ, false, true, not, is_none, replicate, slice_index, slice_set, unwrap_or, IfOk, IfSome, IsNone, IsSome, IsTrue, MatchBool, None, Some};
+ghost use Rattle.std.specs.Prelude.{◌≡◌, ◌⊎◌, ◌+◌, ◌-◌, ◌^◌, ◌<◌, ◌↔◌, ℕ, false, true, not, slice_index, slice_set, IfOk, IfSome, IsNone, IsSome, IsTrue, MatchBool, None, Some};
 ghost use Rattle.st_devices.specs.Faults.{count_after};
-ghost use Rattle.ilpstream_connector.specs.Crew.{threads_of, Hires, LeavesAgain, LeavesUnserved, IsMissed, Stops, GivesUp, Wants, Begins, Takes, Leaves, IsNeeded, IsDone, GoesOn, Stays, LeavesNone, IsFailed, HasPlace, Sends, IsLeave, IsOfConnector};
+ghost use Rattle.ilpstream_connector.specs.Crew.{threads_of, Hires, LeavesAgain, LeavesUnserved, IsMissed, Stops, GivesUp, Wants, Begins, Takes, Leaves, IsNeeded, IsDone, GoesOn, Stays, LeavesNone, IsFailed, HasPlace, Sends, IsLeave, IsOfConnector, empty_roster};
 ghost use Rattle.ilpstream_serving.specs.declared.error.TransferError.TheVariants.{Books};
 
 use ilpstream_serving::TransferError;
@@ -129,7 +129,7 @@ impl Roster {
         requests: Option<u64>,
         accounts: usize,
     ) -> Result<Roster, AllocError>
-        ensures { IfOk result (λ roster. roster ≡ record { left = unwrap_or requests (2 ^ 64 - 1); coming = 0; accepting = 0; busy = 0; sending = replicate accounts 0; spent = 0; unserved = 0; begun = 0; failed = 0; refused = false; endless = is_none requests; stopped = false; fault = None }) }
+        ensures { IfOk result (λ roster. roster ≡ empty_roster requests accounts) }
     {
         let is_endless = requests.is_none();
         let requests = requests.unwrap_or(u64::MAX);
@@ -312,7 +312,8 @@ impl Roster {
     /// A thread has a connection. Answers how often threads are to have begun to accept before it may send to a
     /// neighbour: once more if no other thread accepts. After a fault the thread is to end, and the answer is `None`.
     pub(crate) fn take(&mut self) -> Option<u64>
-        ensures taken { 0 < self.old.accepting → IsNone self.old.fault → Takes self.old self.new × ((needed : ℕ) × (result ≡ Some needed) × IsNeeded self.new needed) }
+        ensures taken { 0 < self.old.accepting → IsNone self.old.fault → Takes self.old self.new
+            × ((needed : ℕ) × (result ≡ Some needed) × IsNeeded self.new needed) }
         ensures left { 0 < self.old.accepting → IsSome self.old.fault → Leaves self.old self.new × (result ≡ None) }
     {
         if self.accepting == 0 {
