@@ -515,6 +515,21 @@ def a_sender_whose_threads_are_at_most(play, count):
 
 
 @test((1,), (3,), waits=True)
+def a_receiver_whose_threads_are_at_most(play, count):
+    content = some_bytes(50_000)
+    receiver = play.receive("--workers=16", preexec_fn=with_threads(count), program=for_all(play))
+    sender = play.send(receiver.port, content)
+    told = ended(receiver, 30)
+    # (as above)
+    wanted = ("0", "80") if os.getuid() else ("80",) if count == 1 else ("0",)
+    want(told in wanted, f"receive {told} in 30 s")
+    if told == "0":
+        ends_well(sender, 10)
+        want(read_bytes(receiver.path) == content, "not all bytes arrived")
+    return f"ends with {told}"
+
+
+@test((1,), (3,), waits=True)
 def a_connector_whose_threads_are_at_most(play, count):
     content = some_bytes(50_000)
     receiver = play.receive()
@@ -902,18 +917,27 @@ def threads(process):
         return int(re.search(r"(?m)^Threads:\s*(\d+)$", file.read())[1])
 
 
-@test(("send",), ("connector",))
+@test(("send",), ("receive",), ("connector",))
 def workers_are_threads_of(play, command):
     found, receiver = {}, play.receive()
     for workers in (1, 4, 16):
         if command == "send":
             it = play.send(receiver.port, play.pipe()[0], f"--workers={workers}")
+        elif command == "receive":
+            it = play.receive(f"--workers={workers}")
         else:
             it = play.before(receiver, f"--workers={workers}")
         time.sleep(0.7)
         found[workers] = threads(it)
     want(found[4] - found[1] == 3 and found[16] - found[1] == 15, f"threads by workers: {found}")
     return f"threads by workers: {found}"
+
+
+@test((1,), (2,), (16,))
+def a_receiver_by_workers(play, workers):
+    content = some_bytes(2_000_000)
+    receiver = play.receive(f"--workers={workers}")
+    return arrives(play.send(receiver.port, content, "--workers=16"), receiver, content, 40)
 
 
 @test((1,), (2,), (4,), waits=True)

@@ -51,7 +51,7 @@ OWN = "Usage: ilpstream connector [OPTIONS] --listen <HOST:PORT> --own <ADDRESS>
 OPTIONS = {
     "local": ["--hops <N>", "--streams <N>", "--lose <N>", "--totals <FILE>"],
     "send": [*ENDS, "--to <HOST:PORT>", "--money <N>", "--workers <N>", "--random <FILE>", "--least <NUM:DEN>", TO],
-    "receive": [*ENDS, "--listen <HOST:PORT>", "--receive-max <N>", "--verbose", "--control <FIFO>", AT],
+    "receive": [*ENDS, "--listen <HOST:PORT>", "--receive-max <N>", "--workers <N>", "--verbose", "--control <FIFO>", AT],
     "connector": [
         *("--listen <HOST:PORT>", "--own <ADDRESS>", "--requests <N>", "--endless", "--workers <N>", "--totals <FILE>", "--log <FILE>"),
         *("--ledger <FILE>", "--verbose", "--control <FIFO>", "--table <FILE>", OWN, "[NAME=TEXT]"),

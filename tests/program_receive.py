@@ -52,7 +52,7 @@ def a_receiver_without_a_place_is_refused(play):
     return "2"
 
 
-@test(("--patience=0",), ("--patience=86401",), ("--patience=",))
+@test(*[(f"--{it}",) for it in ("patience=0", "patience=86401", "patience=", "workers=0", "workers=17", "workers=")])
 def a_receiver_is_refused_with(play, word):
     refuses(run(play, *RECEIVE, word, given=TABLE.encode()), TABLE)
     return "2"

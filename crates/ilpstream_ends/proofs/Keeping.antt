@@ -1,12 +1,15 @@
 -- A run of an end continues, and what of it is written.
-use Rattle.std.proofs.Common.{◌≡◌, ◌⊎◌, ℕ, suc, Bool, true, false, List, [], ◌++◌, inl, inr, append-nil, refl, sym, ap, subst, Option, Some, None, Result, Ok, Err, if◌then◌else◌}
+use Rattle.std.proofs.Common.{◌≡◌, ◌⊎◌, ◌∙◌, ℕ, zero, suc, Bool, true, false, List, [], ◌++◌, inl, inr, append-nil, refl, sym, ap, subst, Option, Some, None, Result, Ok, Err, if◌then◌else◌}
 use Rattle.std.specs.Io.KnownBytes.{Keeps}
 use Rattle.std.proofs.KnownBytes.{Appends-nil, Appends-kept}
 use Rattle.st_receiver.specs.Reading as reading
-use Rattle.st_receiver.specs.Streams.{is_open}
+use Rattle.st_receiver.specs.Streams.{is_open, may_name}
 use Rattle.st_end.specs.State.{EndState}
+use Rattle.st_end.specs.Calls as calls
 use Rattle.st_end.specs.Calls.{OrWants}
 use Rattle.st_end.specs.Reading.{read}
+use Rattle.st_end.specs.Receiving.{Verdict, Unread, Rejects, Fulfills, after_verdict, verdict}
+use Rattle.st_end.specs.declared.opened.Opened.{Opened}
 use Rattle.st_end.specs.declared.error.EndError.{EndError}
 use Rattle.st_end.specs.declared.error.EndError.TheVariants as refusals
 use Rattle.st_file.specs.Stores.{Flushes, WritesPiece}
@@ -14,8 +17,8 @@ use Rattle.st_file.specs.declared.error.FileError.{FileError}
 use Rattle.st_file.specs.declared.error.FileError.TheVariants.{ReadFault, WriteFault, Aborted, Turns, NoMemory, Closed}
 use Rattle.st_file.proofs.Storing.{stored_more, stored_why}
 use Rattle.ilpstream_serving.specs.Answering.{Answers}
-use Rattle.ilpstream_ends.specs.Keeping.{Explains, Gives, Happens, IsAsked, IsOfDelivery, comes, is_read, IsUpToDate, Kept, KeptAll, KeptTo, Reads, Runs, end_in, file_stream, piece_limit, given_of}
-use Rattle.ilpstream_ends.specs.declared.receiver.Receiver.{Receiver}
+use Rattle.ilpstream_ends.specs.Keeping.{Explains, Gives, Happens, IsOfDelivery, comes, is_read, IsUpToDate, Kept, KeptAll, KeptTo, Reads, Runs, RunsIn, file_stream, piece_limit, given_of}
+use Rattle.ilpstream_ends.specs.Replies.{AnswersFor, IsLater, IsOpenedFor, IsReply, IsReplyFor, bytes_opened}
 use Rattle.ilpstream_serving.specs.declared.error.TransferError.{TransferError}
 use Rattle.ilpstream_serving.specs.declared.error.TransferError.TheVariants as transfer
 
@@ -119,6 +122,63 @@ kept_past start now next before after n k r = kept_on start now next before afte
 pub kept_ended : (start now next : EndState) (before mid after : Option (List ℕ)) (n : ℕ) → Kept start before now mid n → Reads now reading.End next → Keeps mid after → KeptTo start before next after n reading.End
 kept_ended start now next before mid after n k r f = (now, kept_flushed start now before mid after n k f, r)
 
+-- ---- the keys of a run
+
+after_keys : (e : EndState) (v : Verdict) → (after_verdict e v).keys ≡ e.keys
+after_keys e (Unread code reason) = refl
+after_keys e (Rejects p reason) = refl
+after_keys e (Fulfills p r) = refl
+
+read_keys : (t : Bool) (a b c : EndState) (x y : Result reading.Got EndError) (z : reading.Got) → c.keys ≡ a.keys → ◌≡◌ {A = Result reading.Got EndError × EndState} (if t then (x, c) else (y, a)) (Ok z, b) → b.keys ≡ a.keys
+read_keys true a b c x y z same h = ap (λ q. q.1.keys) (sym h) ∙ same
+read_keys false a b c x y z same h = ap (λ q. q.1.keys) (sym h)
+
+happens_keys : (a : EndState) (out : List ℕ) (b : EndState) → Happens a out b → b.keys ≡ a.keys
+happens_keys a out b (comes bytes r t is) = ap (λ q. q.1.keys) (sym t.1) ∙ after_keys a (verdict a bytes t.0)
+happens_keys a out b (is_read got r is) = read_keys (is_open a.receiving file_stream) a b _ _ _ got refl r
+
+runs_in_keys : (n : ℕ) (a : EndState) (out : List ℕ) (b : EndState) → RunsIn n a out b → b.keys ≡ a.keys
+runs_in_keys zero a out b r = ap (λ e. e.keys) r.1
+runs_in_keys (suc n) a out b (c, first, last, r, h, is) = happens_keys c last b h ∙ runs_in_keys n a first c r
+
+max_keys : (t : Bool) (a b c : EndState) (x : calls.Answer) → c.keys ≡ a.keys → ◌≡◌ {A = calls.Answer × EndState} (if t then (Ok tt, c) else (Err refusals.NoStream, a)) (x, b) → b.keys ≡ a.keys
+max_keys true a b c x same h = ap (λ q. q.1.keys) (sym h) ∙ same
+max_keys false a b c x same h = ap (λ q. q.1.keys) (sym h)
+
+-- so it does if its receive max is set
+pub set_max_keys : (a b : EndState) (k amount : ℕ) (x : calls.Answer) → calls.set_receive_max a k amount ≡ (x, b) → b.keys ≡ a.keys
+set_max_keys a b k amount x h = max_keys (may_name a.receiving k) a b _ x refl h
+
+-- an end keeps its keys
+pub later_keys : (start now : EndState) → IsLater start now → now.keys ≡ start.keys
+later_keys start now later = runs_in_keys later.1.0 start later.0 now later.1.1
+
+-- what was opened by its first keys was opened by its own
+pub opened_later : {X : Type 0} (start now : EndState) (opened : Option (Opened X)) → IsLater start now → IsOpenedFor start.keys opened → IsOpenedFor now.keys opened
+opened_later start now opened later h = subst (λ k. IsOpenedFor k opened) (sym (later_keys start now later)) h
+
+-- its answers are those of the end that began so
+pub reply_for : (start now next : EndState) (bytes answer : Option (List ℕ)) → IsLater start now → AnswersFor now bytes answer next → IsReplyFor start bytes answer
+reply_for start now next None answer later h = λ bytes. (now, next, later, h bytes)
+reply_for start now next (Some bytes) answer later h = (now, next, later, h)
+
+-- an answer to bytes that were opened is one to the same bytes
+pub reply_to_same : {X : Type 0} (start : EndState) (opened : Option (Opened X)) (o : Opened X) (bytes : List ℕ) (answer : Option (List ℕ)) → opened ≡ Some o → o.bytes.items ≡ bytes → IsReplyFor start (bytes_opened opened) answer → IsReply start bytes answer
+reply_to_same {X} start opened o bytes answer is same h = subst (λ b. IsReply start b answer) same (subst (λ (x : Option (Opened X)). IsReplyFor start (bytes_opened x) answer) is h)
+
+-- and without memory for them it is one to any bytes
+pub reply_to_any : {X : Type 0} (start : EndState) (opened : Option (Opened X)) (bytes : List ℕ) (answer : Option (List ℕ)) → opened ≡ None → IsReplyFor start (bytes_opened opened) answer → IsReply start bytes answer
+reply_to_any {X} start opened bytes answer is h = subst (λ (x : Option (Opened X)). IsReplyFor start (bytes_opened x) answer) is h bytes
+
+-- and an answer is one to some bytes
+pub answers_some : (now next : EndState) (bytes answer : Option (List ℕ)) → AnswersFor now bytes answer next → (some : List ℕ) × Answers now some answer next
+answers_some now next None answer h = ([], h [])
+answers_some now next (Some bytes) answer h = (bytes, h)
+
+-- what is written of an end is written of a later one
+pub kept_later : (start now : EndState) (before after : Option (List ℕ)) (n : ℕ) → Kept start before now after n → IsLater start now
+kept_later start now before after n k = (k.0, k.1)
+
 -- ---- answers
 
 -- an answer extends a run, or changes nothing
@@ -126,11 +186,6 @@ pub kept_answered : (start now next : EndState) (before after : Option (List ℕ
 kept_answered start now next before after n bytes (Some answer) k (inl h) = kept_on start now next before after n k (comes bytes h.0 h.1 refl)
 kept_answered start now next before after n bytes (Some answer) k (inr h) = rw h.1 k
 kept_answered start now next before after n bytes None k h = rw h k
-
--- so does a receiver that was asked once
-pub kept_asked : {K : Type 0} (old new : Receiver K) (start : EndState) (before after : Option (List ℕ)) (n : ℕ) → Kept start before (end_in old) after n → IsAsked old new → Kept start before (end_in new) after n
-kept_asked old new start before after n k (inl same) = subst (λ x. Kept start before (end_in x) after n) (sym same) k
-kept_asked old new start before after n k (inr h) = kept_answered start (end_in old) (end_in new) before after n h.1 h.2 k h.3
 
 -- a fault of the delivery differs from each one that is not of the delivery
 pub other_fault : (e x : TransferError) (Q : Type 0) → IsOfDelivery e → (IsOfDelivery x → Q) → ◌≡◌ {A = Result ℕ TransferError} (Err e) (Err x) → Q

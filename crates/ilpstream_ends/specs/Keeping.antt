@@ -14,10 +14,9 @@ use Rattle.st_file.specs.Sources.{Given}
 use Rattle.st_file.specs.Stores.{Stored}
 use Rattle.st_file.specs.Errors as file
 use Rattle.st_file.specs.declared.error.FileError.TheVariants as file_error
-use Rattle.ilpstream_serving.specs.Answering.{Answers, AskedOnce, Takes}
+use Rattle.ilpstream_serving.specs.Answering.{Takes}
 use Rattle.ilpstream_ends.specs.declared.delivery.Delivered.{Delivered}
 use Rattle.ilpstream_ends.specs.declared.delivery.Delivered.TheVariants.{More, Whole}
-use Rattle.ilpstream_ends.specs.declared.receiver.Receiver.{Receiver}
 use Rattle.ilpstream_serving.specs.declared.error.TransferError.{TransferError}
 use Rattle.ilpstream_serving.specs.declared.error.TransferError.TheVariants.{Failed, Stalled, Rings, Accept, Turns, Silent, IvFault, NoMemory, End, Desk, File, Books}
 
@@ -141,18 +140,10 @@ ReceivesFrom (Err why, start) now before after result = (result ≡ Err (End why
 abbrev pub TellsTotals : Answer × EndState → (before after : Option (List ℕ)) → Totals → Result ℕ TransferError → Type 0
 TellsTotals opened before after told result = (now : EndState) × ReceivesFrom opened now before after result × (told ≡ totals now)
 
--- the end of a receiver
-abbrev pub end_in : {K : Type 0} → Receiver K → EndState
-end_in r = r.end
-
--- a receiver was asked once, or not at all
-abbrev pub IsAsked : {K : Type 0} → (old new : Receiver K) → Type 0
-IsAsked {K} old new = AskedOnce (λ (x : Receiver K) account body answer (y : Receiver K). Answers (end_in x) body answer (end_in y)) old new
-
 -- an output's count of errors after it: one more if the result is a fault of it, and the same otherwise
 abbrev pub faults_reported : {T : Type 0} → Result T TransferError → ℕ → ℕ
 faults_reported (Ok x) count = count
-faults_reported (Err (File e)) count = file.faults_told {T = Unit {0}} (Err e) count
+faults_reported (Err (File e)) count = file.faults_reported {T = Unit {0}} (Err e) count
 faults_reported (Err Failed) count = count
 faults_reported (Err Stalled) count = count
 faults_reported (Err Rings) count = count

@@ -1,3 +1,4 @@
 pub mod Lobby
 pub mod Keeping
+pub mod Replies
 pub mod Outcomes

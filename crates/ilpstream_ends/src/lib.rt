@@ -6,20 +6,24 @@
 //! its end.
 #![tactic(auto)]
 
+mod asked;
 mod delivery;
 mod ends;
 mod faults;
 mod inlet;
 mod ivs;
 mod lobby;
+mod opening;
+mod readers;
 mod receive;
 mod receiver;
+mod requests;
 mod send;
 mod threads;
 mod told_link;
 mod workers;
 
-pub use ends::{client_end, server_end};
+pub use ends::{ReceivingEnd, client_end, server_end};
 pub use ivs::{ReaderIvs, SharedIvs};
 pub use receive::receive_on;
 pub use send::send_on;

@@ -1,32 +1,33 @@
 //! The connections of a receiver on which a request is on its way.
 
-ghost use Rattle.std.specs.Prelude.{◌≡◌, ℕ, ◌+◌, ◌<◌, ◌≤◌, IsSome, IsTrue, IfErr, IfOk, IfSome, IsOkUnless, MatchOption, OnErr, Err, vec_len};
+ghost use Rattle.std.specs.Prelude.{◌≡◌, ℕ, ◌+◌, ◌<◌, ◌≤◌, IsTrue, IfOk, IfSome, IsOkUnless, MatchOption, OnErr, vec_len};
 ghost use Rattle.st_http.specs.Message.{refused};
-ghost use Rattle.st_http.specs.Progress.{account_of, body_of};
 ghost use Rattle.st_http.specs.declared.error.HttpError.TheVariants.{Status};
-ghost use Rattle.ilpstream_serving.specs.Answering.{AskedOnce, IsWholeAt};
-ghost use Rattle.ilpstream_ends.specs.Lobby.{IsOfLobby};
-ghost use Rattle.ilpstream_serving.specs.declared.error.TransferError.TheVariants.{Accept, Silent, Turns};
+ghost use Rattle.ilpstream_serving.specs.Answering.{IsWholeAt};
+ghost use Rattle.ilpstream_serving.specs.declared.error.TransferError.TheVariants.{Accept};
 
 use ilpstream_serving::{
-    ANSWER_SECONDS, AwaitListener, Idle, Log, PAUSE, Patience, Timed, TransferError, WRITE_SECONDS,
-    Watch, accept_next, deadline_in, left_until, millis_of, shut, tell_connection,
+    ANSWER_SECONDS, AwaitListener, Log, PAUSE, TRIES, Timed, TransferError, WRITE_SECONDS,
+    deadline_in, left_until, millis_of, tell_connection,
 };
 use libc::net::{POLLIN, poll};
 use libc::types::pollfd;
 use st_devices::{Counting, ReadTurn, read_turn};
-use st_http::{Answerer, HttpError, Reading, refuse, respond};
+use st_http::{HttpError, Reading, refuse};
 use std::alloc::Global;
-use std::io::{Read, Write};
+use std::io::{ErrorKind, Read, Write};
 use std::net::{OpenStream, SocketAddr};
 use std::thread;
 use std::time::{Clock, Duration, Instant};
 
-/// The most connections on which a request is on its way. One more, and the oldest is closed.
-const MOST_GUESTS: usize = 256;
+/// The most connections of all threads together on which a request is on its way.
+pub(crate) const MOST_GUESTS: usize = 256;
 
 /// The most bytes of one read.
 const PIECE: usize = 16_384;
+
+/// How many milliseconds a thread waits at most before it asks again whether it is to continue.
+const LOOK_MILLIS: u64 = 200;
 
 /// How far a request has been read.
 #[derive(Clone, Copy, Debug, PartialEq, Eq)]
@@ -47,11 +48,11 @@ pub(crate) struct Guest<'a, S, R: Clock> {
     descriptor: Option<i32>,
     /// The address of its other side.
     from: SocketAddr,
-    stream: Counting<Timed<'a, S, R>>,
-    reading: Reading<'a, Global>,
+    pub(crate) stream: Counting<Timed<'a, S, R>>,
+    pub(crate) reading: Reading<'a, Global>,
     deadline: Option<Instant>,
     /// The I/O calls that are left to it.
-    turns: u64,
+    pub(crate) turns: u64,
 }
 
 impl<S: Read + Write + OpenStream + Drop, R: Clock> Guest<'_, S, R> {
@@ -79,20 +80,6 @@ impl<S: Read + Write + OpenStream + Drop, R: Clock> Guest<'_, S, R> {
         }
     }
 
-    /// Has the request answered, writes the response, and ends the connection. What fails on the connection ends it alone.
-    pub(crate) fn answer<T: Answerer>(self, alloc: Global, answerer: &mut T)
-        requires { IsWholeAt self.reading.standing }
-        ensures { AskedOnce T.gives answerer.old answerer.new }
-    {
-        let Guest {
-            mut stream,
-            reading,
-            mut turns,
-            ..
-        } = self;
-        let _ = respond(alloc, &mut stream, &reading, answerer, &mut turns);
-    }
-
     /// Refuses the request by this status, which is its own, and ends the connection.
     fn refuse(self, alloc: Global, status: u16)
         requires { self.reading.standing ≡ refused (Status status) }
@@ -115,8 +102,8 @@ struct Ready {
     guest: Option<usize>,
 }
 
-/// A listener, and the connections of it on which a request is on its way. None of them delays another: one is read
-/// if something has arrived on it, or its time is over.
+/// A listener, and the connections of one thread on which a request is on its way. None of them delays another: one is
+/// read if something has arrived on it, or its time is over.
 #[derive(Drop)]
 pub(crate) struct Lobby<'a, L: AwaitListener, R: Clock> {
     rt: &'a R,
@@ -128,10 +115,14 @@ pub(crate) struct Lobby<'a, L: AwaitListener, R: Clock> {
     turns: u64,
     /// The number of connections that may still be accepted.
     left: u64,
+    /// The most connections on which a request is on its way: one more, and the oldest is closed.
+    most: usize,
     /// The oldest first.
     guests: Vec<Guest<'a, L::Stream, R>>,
     /// The place at which the search for a readable connection begins, so that each is served in turn.
     from: usize,
+    /// How often in a row the listener failed while there was no connection.
+    failures: u32,
     /// The log to which connections without a request are reported.
     log: Log<'a>,
 }
@@ -140,42 +131,40 @@ impl<'a, L: AwaitListener, R: Clock> Lobby<'a, L, R>
 where
     L::Stream: Read + Write + OpenStream,
 {
-    /// No connection yet. At most `turns` are accepted, and each may use at most that number of I/O calls.
+    /// No connection yet. At most `left` are accepted, of which each may use `turns` I/O calls, and `most` are read at once.
     pub(crate) fn new(
         rt: &'a R,
         alloc: Global,
         listener: &'a L,
         tokens: &'a [&'a str],
         turns: u64,
+        left: u64,
+        most: usize,
         log: Log<'a>,
-    ) -> Lobby<'a, L, R> {
+    ) -> Lobby<'a, L, R>
+        ensures { result.left ≡ left }
+    {
         Lobby {
             rt,
             alloc,
             listener,
             tokens,
             turns,
-            left: turns,
+            left,
+            most,
             guests: Vec::new(alloc),
             from: 0,
+            failures: 0,
             log,
         }
     }
 
-    /// How long to wait at most: until the patience is over, or the time of the first connection, and no longer than a period.
-    /// `None` is without end.
-    fn longest_wait(
-        &self,
-        patience: Option<Duration>,
-        period: Option<Duration>,
-    ) -> Option<Duration> {
-        let mut longest = match (patience, period) {
-            (Some(time), Some(period)) => Some(time.min(period)),
-            (time, period) => time.or(period),
-        };
+    /// How long to wait at most: until the time of the first connection is over, and no longer than 200 milliseconds.
+    fn longest_wait(&self) -> Duration {
+        let mut longest = Duration::from_millis(LOOK_MILLIS);
         for guest in &self.guests {
             let left = left_until(self.rt, guest.deadline).unwrap_or(Duration::ZERO);
-            longest = Some(longest.map_or(left, |time| time.min(left)));
+            longest = longest.min(left);
         }
         longest
     }
@@ -209,34 +198,32 @@ where
     }
 
     /// What can be done at a listener that `poll` knows nothing of: its one connection is read until its request has arrived.
-    fn unpolled(&self) -> Ready
+    fn unpolled(&self, accepts: bool) -> Ready
         ensures guest { IfSome result.guest (λ i. i < vec_len self.now.guests) }
         ensures accept { IsTrue result.accept → 0 < self.now.left }
     {
         let is_empty = self.guests.is_empty();
         Ready {
-            accept: is_empty && self.left > 0,
+            accept: accepts && is_empty && self.left > 0,
             guest: if is_empty { None } else { Some(0) },
         }
     }
 
-    /// Waits until a connection can be accepted or read, its time is over, or a period is. Fails with `Silent` if the
-    /// patience is over before.
-    fn wait(&self, patience: &Patience, period: Option<Duration>) -> Result<Ready, TransferError>
-        ensures silent { IfErr result (λ e. (e ≡ Silent) × IsSome patience.now.time) }
-        ensures guest { IfOk result (λ r. IfSome r.guest (λ i. i < vec_len self.now.guests)) }
-        ensures accept { IfOk result (λ r. IsTrue r.accept → 0 < self.now.left) }
+    /// Waits until a connection can be accepted, if it `accepts` any, or read, or its time is over, and for 200 milliseconds at
+    /// most.
+    fn wait(&self, accepts: bool) -> Ready
+        ensures guest { IfSome result.guest (λ i. i < vec_len self.now.guests) }
+        ensures accept { IsTrue result.accept → 0 < self.now.left }
     {
-        let time = self.longest_wait(patience.left(self.rt)?, period);
         let Some(listener) = self.listener.descriptor() else {
-            return Ok(self.unpolled());
+            return self.unpolled(accepts);
         };
         let mut fds = [pollfd {
             fd: -1,
             events: POLLIN,
             revents: 0,
         }; MOST_GUESTS + 1];
-        if self.left > 0 {
+        if accepts && self.left > 0 {
             fds[0].fd = listener;
         }
         let (_, behind) = fds.split_at_mut(1);
@@ -244,37 +231,59 @@ where
             fd.fd = guest.descriptor.unwrap_or(-1);
         }
         let last = self.guests.len().min(MOST_GUESTS);
-        if poll(&mut fds[..=last], time.map_or(-1, |time| millis_of(time))) < 0 {
+        if poll(&mut fds[..=last], millis_of(self.longest_wait())) < 0 {
             thread::sleep(self.rt, Duration::from_millis(PAUSE));
         }
-        Ok(Ready {
-            accept: self.left > 0 && fds[0].revents != 0,
+        Ready {
+            accept: accepts && self.left > 0 && fds[0].revents != 0,
             guest: self.due(&fds[1..]),
-        })
+        }
     }
 
-    /// Accepts a connection. If that fails, and other connections use file descriptors and memory, the oldest of them
-    /// is closed.
-    fn accept(&mut self, patience: &Patience) -> Result<(), TransferError>
+    /// The listener gave no connection. If it failed, and other connections use file descriptors and memory, the oldest of
+    /// them is closed. Fails with `Accept`, if there is no other, after 100 failures in a row, or if the listener is shut.
+    fn miss(&mut self, kind: ErrorKind) -> Result<(), TransferError>
+        ensures refused { IsOkUnless result Accept }
+        ensures left { self.new.left ≡ self.old.left }
+        ensures fewer { vec_len self.new.guests ≤ vec_len self.old.guests }
+    {
+        let is_shut = match kind {
+            ErrorKind::WouldBlock | ErrorKind::Interrupted => {
+                self.failures = 0;
+                return Ok(());
+            }
+            ErrorKind::InvalidInput => true,
+            _ => false,
+        };
+        if !is_shut && !self.guests.is_empty() {
+            drop(self.guests.remove(0));
+            return Ok(());
+        }
+        if is_shut && self.guests.is_empty() {
+            return Err(TransferError::Accept);
+        }
+        thread::sleep(self.rt, Duration::from_millis(PAUSE));
+        self.failures = self.failures.saturating_add(1);
+        if self.failures >= TRIES && self.guests.is_empty() {
+            return Err(TransferError::Accept);
+        }
+        Ok(())
+    }
+
+    /// Tries to accept a connection. Its request may take no longer than `time` to arrive.
+    fn accept(&mut self, time: Option<Duration>) -> Result<(), TransferError>
         requires { 0 < self.old.left }
         ensures refused { IsOkUnless result Accept }
         ensures kept { OnErr result (self.new.left ≡ self.old.left) }
         ensures fewer { self.new.left + vec_len self.new.guests ≤ self.old.left + vec_len self.old.guests }
     {
-        let time = patience.left(self.rt).ok().flatten();
-        let (stream, from) = if self.guests.is_empty() {
-            accept_next(self.rt, self.listener)?
-        } else {
-            match self.listener.accept() {
-                Ok(accepted) => accepted,
-                Err(_) => {
-                    drop(self.guests.remove(0));
-                    return Ok(());
-                }
-            }
+        let (stream, from) = match self.listener.accept() {
+            Ok(accepted) => accepted,
+            Err(error) => return self.miss(error.kind()),
         };
+        self.failures = 0;
         self.left -= 1;
-        if self.guests.len() >= MOST_GUESTS {
+        if self.guests.len() >= self.most && !self.guests.is_empty() {
             drop(self.guests.remove(0));
         }
         let guest = self.guest_of(stream, from, time);
@@ -304,12 +313,23 @@ where
     }
 
     /// Accepts no further connection. Those on which a request is on its way stay.
-    fn stop(&mut self)
+    pub(crate) fn stop(&mut self)
         ensures left { self.new.left ≡ 0 }
         ensures kept { vec_len self.new.guests ≡ vec_len self.old.guests }
     {
         self.left = 0;
-        shut(self.listener);
+    }
+
+    /// Whether no request is on its way.
+    pub(crate) fn is_empty(&self) -> bool {
+        self.guests.is_empty()
+    }
+
+    /// Whether no further request can arrive.
+    pub(crate) fn is_done(&self) -> bool
+        ensures done { IsTrue result → (self.now.left ≡ 0) × (vec_len self.now.guests ≡ 0) }
+    {
+        self.left == 0 && self.guests.is_empty()
     }
 
     /// Reads what has arrived on a connection, and gives it once its request has arrived intact.
@@ -338,43 +358,30 @@ where
         }
     }
 
-    /// Waits for the next connection on which a request has arrived intact. Those whose request is refused are answered by
-    /// its status. `idle` is called each period meanwhile.
+    /// Waits until something can be done, for 200 milliseconds at most, and does it: reads what has arrived on a connection,
+    /// or accepts one, if it `accepts` any. Gives a connection once its request has arrived intact. One whose request is refused is answered by its
+    /// status. The request of a new connection may take no longer than `time` to arrive.
     ///
-    /// Fails with `Accept` if the listener gives no connection 100 times in a row; with `Silent` if no request arrived
-    /// for as long as the patience lasts; with `Turns` if no further connection may be accepted and none is left, as once
-    /// `idle` says that it is stopped.
-    pub(crate) fn next<V: Watch>(
+    /// Fails with `Accept` if the listener gave no connection 100 times in a row while none was open.
+    pub(crate) fn turn(
         &mut self,
-        patience: &Patience,
-        idle: &mut Idle<'_, V>,
-    ) -> Result<Guest<'a, L::Stream, R>, TransferError>
-        ensures whole { IfOk result (λ g. IsWholeAt g.reading.standing) }
-        ensures fewer { IfOk result (λ _. self.new.left + vec_len self.new.guests < self.old.left + vec_len self.old.guests) }
-        ensures silent { IfErr result (λ e. e ≡ Silent → IsSome patience.now.time) }
-        ensures turned { result ≡ Err Turns → self.new.left ≡ 0 }
-        ensures unaccepted { result ≡ Err Accept → 0 < self.new.left }
-        ensures known { IfErr result IsOfLobby }
+        time: Option<Duration>,
+        accepts: bool,
+    ) -> Result<Option<Guest<'a, L::Stream, R>>, TransferError>
+        ensures refused { IsOkUnless result Accept }
+        ensures unaccepted { OnErr result (0 < self.new.left) }
+        ensures whole { IfOk result (λ came. IfSome came (λ g. IsWholeAt g.reading.standing)) }
+        ensures fewer { IfOk result (λ came. MatchOption came (self.new.left + vec_len self.new.guests ≤ self.old.left + vec_len self.old.guests) (λ _. self.new.left + vec_len self.new.guests < self.old.left + vec_len self.old.guests)) }
     {
-        for _ in 0..u64::MAX {
-            if self.left == 0 && self.guests.is_empty() {
-                break;
-            }
-            let ready = self.wait(patience, idle.period())?;
-            idle.look();
-            if self.left > 0 && idle.is_stopped() {
-                self.stop();
-            }
-            if let Some(place) = ready.guest
-                && let Some(guest) = self.read(place)
-            {
-                return Ok(guest);
-            }
-            if ready.accept && self.left > 0 {
-                self.accept(patience)?;
-            }
+        let ready = self.wait(accepts);
+        if let Some(place) = ready.guest
+            && let Some(guest) = self.read(place)
+        {
+            return Ok(Some(guest));
         }
-        self.stop();
-        Err(TransferError::Turns)
+        if ready.accept && self.left > 0 {
+            self.accept(time)?;
+        }
+        Ok(None)
     }
 }

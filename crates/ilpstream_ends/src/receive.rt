@@ -1,104 +1,277 @@
 //! The command `receive`.
 
-ghost use Rattle.std.specs.Prelude.{◌≡◌, ◌<◌, true, OnOk, IsSome, Err};
+ghost use Rattle.std.specs.Prelude.{◌≡◌, true, IfErr, OnOk, IsSome, Err};
 ghost use Rattle.st_devices.specs.Tallies.{device_of, tally_of};
 ghost use Rattle.st_end.specs.Calls as calls;
 ghost use Rattle.st_end.specs.Seen.{totals_seen};
-ghost use Rattle.ilpstream_serving.specs.Answering.{IsWholeAt};
-ghost use Rattle.ilpstream_ends.specs.Keeping.{IsAsked, Receives, ReceivesFrom, TellsTotals, faults_reported, file_stream};
+ghost use Rattle.ilpstream_ends.specs.Keeping.{Receives, ReceivesFrom, TellsTotals, faults_reported, file_stream};
+ghost use Rattle.ilpstream_ends.specs.Lobby.{HaveEnded, HaveFailed, HaveNoListener, IsOfLobby};
 ghost use Rattle.ilpstream_serving.specs.declared.error.TransferError.TheVariants.{Accept, Silent, Turns};
 
+use crate::asked::{Asked, OpeningKeys, ReceiverName};
 use crate::delivery::{Delivered, STREAM, deliver};
-use crate::lobby::{Guest, Lobby};
+use crate::ends::ReceivingEnd;
+use crate::opening::{Shared, open_all};
+use crate::readers::Readers;
 use crate::receiver::Receiver;
+use crate::requests::{Mailbox, Requests};
 use ilpstream_serving::{
-    AwaitListener, Ended, Idle, Patience, ReceiveTerms, TransferError, Watch, tell_end,
-    tell_refused,
+    AwaitListener, Ended, Idle, Patience, ReceiveTerms, TransferError, Watch, accept_without_waits,
+    tell_end, tell_refused,
 };
 use st_devices::Counting;
-use st_end::EndState;
+use st_end::EndError;
+use st_keys::Keys;
 use st_links::Clock;
-use std::alloc::Global;
+use std::alloc::{AllocError, Global};
 use std::io::{Read, Write};
+use std::marker::Brand;
 use std::net::OpenStream;
+use std::sync::{Mutex, Wait};
+use std::thread::{Threads, join_mut};
 
-/// Has the request of a connection answered by the end, and writes the response.
-fn serve_guest<S: Read + Write + OpenStream + Drop, R: std::time::Clock, K: Clock>(
-    guest: Guest<'_, S, R>,
-    receiver: &mut Receiver<K>,
-)
-    requires { IsWholeAt guest.reading.standing }
-    ensures { IsAsked receiver.old receiver.new }
+/// Waits for the next request. `idle` is called each period meanwhile.
+///
+/// Fails with `Silent` if none arrived for as long as the patience lasts; with `Turns` if no further connection may be
+/// accepted and none is left, as once `idle` says that it is stopped; with `Accept` if the listener gives no connection.
+fn next_request<N: ReceiverName, L: AwaitListener, R: Wait + std::time::Clock, V: Watch>(
+    rt: &R,
+    shared: &Shared<'_, N, L>,
+    patience: &Patience,
+    readers: &mut Readers,
+    idle: &mut Idle<'_, V>,
+) -> Result<Asked<N>, TransferError>
+    ensures silent { IfErr result (λ e. e ≡ Silent → IsSome patience.now.time) }
+    ensures turned { result ≡ Err Turns → HaveEnded readers.new }
+    ensures unaccepted { result ≡ Err Accept → HaveFailed readers.new }
+    ensures known { IfErr result IsOfLobby }
 {
-    guest.answer(receiver.alloc, receiver);
+    for _ in rt.forever() {
+        let came = shared.requests.next(rt, patience, idle.period(), readers)?;
+        idle.look();
+        if idle.is_stopped() {
+            shared.stop(rt);
+        }
+        if let Some(asked) = came {
+            return Ok(asked);
+        }
+    }
+    unreachable!()
 }
 
-/// Answers requests and writes what arrives, until the stream ended.
-fn receive_all<L: AwaitListener, R: std::time::Clock, W: Write, K: Clock, V: Watch>(
+/// Judges the requests that other threads opened, and writes what arrives, until the stream ended. `readers` is as those
+/// threads were when it last looked.
+fn judge_all<
+    N: ReceiverName,
+    L: AwaitListener,
+    R: Wait + std::time::Clock,
+    W: Write,
+    K: Clock,
+    V: Watch,
+>(
     rt: &R,
-    lobby: &mut Lobby<'_, L, R>,
+    shared: &Shared<'_, N, L>,
     receiver: &mut Receiver<K>,
     writer: &mut Counting<W>,
-    terms: ReceiveTerms<'_>,
+    readers: &mut Readers,
     watch: &mut V,
 ) -> Result<u64, TransferError>
-where
-    L::Stream: Read + Write + OpenStream,
+    requires { N.start ≡ receiver.old.end }
     ensures told { Receives receiver.old.end receiver.new.end (W.contents (device_of writer.old)) (W.contents (device_of writer.new)) result }
     ensures flushed { OnOk result ((tally_of writer.new).flushed ≡ true) }
     ensures faults { (tally_of writer.new).faults ≡ faults_reported result (tally_of writer.old).faults }
-    ensures patient { result ≡ Err Silent → IsSome terms.entry.patience }
-    ensures turned { result ≡ Err Turns → lobby.new.left ≡ 0 }
-    ensures unaccepted { result ≡ Err Accept → 0 < lobby.new.left }
+    ensures patient { result ≡ Err Silent → IsSome shared.now.terms.patience }
+    ensures turned { result ≡ Err Turns → HaveEnded readers.new }
+    ensures unaccepted { result ≡ Err Accept → HaveNoListener readers.new }
 {
     let mut written = 0;
-    let mut patience = Patience::new(rt, terms.patience);
+    let mut patience = Patience::new(rt, shared.terms.patience);
     let mut last = None;
-    'requests: loop {
+    if !shared.requests.have_readers(rt, readers) {
+        return Err(TransferError::Accept);
+    }
+    'requests: for _ in rt.forever() {
         let mut idle = Idle {
             watch: &mut *watch,
             totals: receiver.end.totals(),
             last,
         };
-        let guest = match lobby.next(&patience, &mut idle) {
-            Ok(guest) => guest,
+        let asked = match next_request(rt, shared, &patience, readers, &mut idle) {
+            Ok(asked) => asked,
             Err(TransferError::Silent) => return Err(TransferError::Silent),
             Err(TransferError::Turns) => return Err(TransferError::Turns),
             Err(TransferError::Accept) => return Err(TransferError::Accept),
             Err(_) => unreachable!(),
         };
-        serve_guest(guest, receiver);
-        tell_refused(rt, terms.log, receiver.refused);
+        let (by, answered) = asked.judged(receiver);
+        shared.answer(rt, by, answered);
+        tell_refused(rt, shared.terms.log, receiver.refused);
         if let Some(refusal) = &receiver.refused {
             last = Some(refusal.brief());
         }
-        let mut left = terms.turns;
+        let mut left = shared.terms.turns;
         match deliver(&mut receiver.end, writer, &mut written, &mut left) {
             Ok(Delivered::More) => patience.renew(rt),
             Ok(Delivered::Whole) => return Ok(written),
             Err(error) => return Err(error),
         }
     }
+    unreachable!()
 }
 
-/// Sets the stream's receive maximum, then answers requests and writes what arrives.
-fn receive_from<L: AwaitListener, R: std::time::Clock, W: Write, K: Clock, V: Watch>(
+/// The same. Then the threads that read requests are to end.
+fn judge_and_end<
+    N: ReceiverName,
+    L: AwaitListener,
+    R: Wait + std::time::Clock,
+    W: Write,
+    K: Clock,
+    V: Watch,
+>(
     rt: &R,
-    lobby: &mut Lobby<'_, L, R>,
+    shared: &Shared<'_, N, L>,
     receiver: &mut Receiver<K>,
     writer: &mut Counting<W>,
-    terms: ReceiveTerms<'_>,
+    watch: &mut V,
+) -> Result<u64, TransferError>
+    requires { N.start ≡ receiver.old.end }
+    ensures told { Receives receiver.old.end receiver.new.end (W.contents (device_of writer.old)) (W.contents (device_of writer.new)) result }
+    ensures flushed { OnOk result ((tally_of writer.new).flushed ≡ true) }
+    ensures faults { (tally_of writer.new).faults ≡ faults_reported result (tally_of writer.old).faults }
+    ensures patient { result ≡ Err Silent → IsSome shared.now.terms.patience }
+{
+    let mut readers = Readers::none();
+    let result = judge_all(rt, shared, receiver, writer, &mut readers, watch);
+    shared.end(rt);
+    result
+}
+
+/// A mailbox for each of this number of threads.
+fn mailboxes_of<N: ReceiverName>(
+    alloc: Global,
+    threads: u8,
+) -> Result<Vec<Mailbox<N>>, AllocError> {
+    let mut mailboxes = Vec::new(alloc);
+    for _ in 0..threads {
+        mailboxes.push(Mailbox::new())?;
+    }
+    Ok(mailboxes)
+}
+
+/// Reads and opens requests by further threads, and judges them in this one, until the stream ended.
+fn receive_beside<
+    'a,
+    N: ReceiverName + Send + Sync,
+    L: AwaitListener + Send + Sync,
+    R: Threads + Wait + std::time::Clock + Sync,
+    W: Write,
+    K: Clock,
+    V: Watch,
+>(
+    rt: &'a R,
+    shared: &'a Shared<'a, N, L>,
+    receiver: &mut Receiver<K>,
+    writer: &mut Counting<W>,
     watch: &mut V,
 ) -> Result<u64, TransferError>
 where
-    L::Stream: Read + Write + OpenStream,
+    L::Stream: Read + Write + OpenStream + Send,
+    requires { N.start ≡ receiver.old.end }
+    ensures told { Receives receiver.old.end receiver.new.end (W.contents (device_of writer.old)) (W.contents (device_of writer.new)) result }
+    ensures flushed { OnOk result ((tally_of writer.new).flushed ≡ true) }
+    ensures faults { (tally_of writer.new).faults ≡ faults_reported result (tally_of writer.old).faults }
+    ensures patient { result ≡ Err Silent → IsSome shared.now.terms.patience }
+{
+    let (_, result) = join_mut(
+        rt,
+        &mut || open_all(rt, shared),
+        &mut || -> Result<u64, TransferError>
+            requires { N.start ≡ receiver.now.end }
+            ensures told { Receives receiver.entry.now.end receiver.exit.now.end (W.contents (device_of writer.entry.now)) (W.contents (device_of writer.exit.now)) result }
+            ensures flushed { OnOk result ((tally_of writer.exit.now).flushed ≡ true) }
+            ensures faults { (tally_of writer.exit.now).faults ≡ faults_reported result (tally_of writer.entry.now).faults }
+            ensures patient { result ≡ Err Silent → IsSome shared.entry.now.terms.patience }
+        { judge_and_end(rt, shared, receiver, writer, watch) },
+    );
+    result
+}
+
+/// The same, under the name that was picked for the receiver. The keys are those of its end.
+fn receive_all<
+    'a,
+    N: ReceiverName + Send + Sync,
+    L: AwaitListener + Send + Sync,
+    R: Threads + Wait + std::time::Clock + Sync,
+    W: Write,
+    K: Clock,
+    V: Watch,
+>(
+    rt: &'a R,
+    listener: &'a L,
+    tokens: &'a [&'a str],
+    keys: Keys,
+    receiver: &mut Receiver<K>,
+    writer: &mut Counting<W>,
+    terms: ReceiveTerms<'a>,
+    watch: &mut V,
+) -> Result<u64, TransferError>
+where
+    L::Stream: Read + Write + OpenStream + Send,
+    requires start { N.start ≡ receiver.old.end }
+    requires keys { keys ≡ receiver.old.end.keys }
+    ensures told { Receives receiver.old.end receiver.new.end (W.contents (device_of writer.old)) (W.contents (device_of writer.new)) result }
+    ensures flushed { OnOk result ((tally_of writer.new).flushed ≡ true) }
+    ensures faults { (tally_of writer.new).faults ≡ faults_reported result (tally_of writer.old).faults }
+    ensures patient { result ≡ Err Silent → IsSome terms.entry.patience }
+{
+    let alloc = receiver.alloc;
+    let Ok(mailboxes) = mailboxes_of::<N>(alloc, terms.workers.max(1)) else {
+        return Err(TransferError::End(EndError::NoMemory));
+    };
+    let shared = Shared {
+        alloc,
+        listener,
+        tokens,
+        keys: OpeningKeys::<N>::new(keys),
+        requests: Requests::new(alloc, Patience::new(rt, terms.patience)),
+        mailboxes,
+        turn: Mutex::new(()),
+        terms,
+    };
+    receive_beside(rt, &shared, receiver, writer, watch)
+}
+
+/// Sets the stream's receive maximum, then answers requests and writes what arrives. The keys are those of the end.
+#[tactic(auto, using(crate::proofs::Keeping::set_max_keys))]
+fn receive_from<
+    'a,
+    L: AwaitListener + Send + Sync,
+    R: Threads + Wait + std::time::Clock + Sync,
+    W: Write,
+    K: Clock,
+    V: Watch,
+>(
+    rt: &'a R,
+    listener: &'a L,
+    tokens: &'a [&'a str],
+    keys: Keys,
+    receiver: &mut Receiver<K>,
+    writer: &mut Counting<W>,
+    terms: ReceiveTerms<'a>,
+    watch: &mut V,
+) -> Result<u64, TransferError>
+where
+    L::Stream: Read + Write + OpenStream + Send,
+    requires { keys ≡ receiver.old.end.keys }
     ensures told { ReceivesFrom (calls.set_receive_max receiver.old.end file_stream terms.entry.receive_max) receiver.new.end (W.contents (device_of writer.old)) (W.contents (device_of writer.new)) result }
     ensures flushed { OnOk result ((tally_of writer.new).flushed ≡ true) }
     ensures faults { (tally_of writer.new).faults ≡ faults_reported result (tally_of writer.old).faults }
     ensures patient { result ≡ Err Silent → IsSome terms.entry.patience }
 {
     match receiver.end.set_receive_max(STREAM, terms.receive_max) {
-        Ok(()) => receive_all(rt, lobby, receiver, writer, terms, watch),
+        Ok(()) => receive_all::<Brand, L, R, W, K, V>(
+            rt, listener, tokens, keys, receiver, writer, terms, watch,
+        ),
         Err(error) => Err(TransferError::End(error)),
     }
 }
@@ -122,8 +295,8 @@ where
 /// `File` if the output fails or its calls are used up, and if the peer aborted the stream; `End` if `end` refuses the
 /// receive maximum, or memory to read the stream is refused. What arrived before is written.
 pub fn receive_on<
-    L: AwaitListener + Drop,
-    R: std::time::Clock,
+    L: AwaitListener + Send + Sync + Drop,
+    R: Threads + Wait + std::time::Clock + Sync,
     W: Write,
     K: Clock + Drop,
     V: Watch,
@@ -131,19 +304,20 @@ pub fn receive_on<
     rt: &R,
     alloc: Global,
     listener: L,
-    end: EndState<Global>,
+    end: ReceivingEnd,
     writer: &mut Counting<W>,
     clock: K,
     terms: ReceiveTerms<'_>,
     watch: &mut V,
 ) -> Ended
 where
-    L::Stream: Read + Write + OpenStream,
+    L::Stream: Read + Write + OpenStream + Send,
     ensures told { TellsTotals (calls.set_receive_max end file_stream terms.entry.receive_max) (W.contents (device_of writer.old)) (W.contents (device_of writer.new)) (totals_seen result.totals) result.result }
     ensures flushed { OnOk result.result ((tally_of writer.new).flushed ≡ true) }
     ensures faults { (tally_of writer.new).faults ≡ faults_reported result.result (tally_of writer.old).faults }
     ensures patient { result.result ≡ Err Silent → IsSome terms.entry.patience }
 {
+    let (end, keys) = end.into_parts();
     let mut receiver = Receiver {
         end,
         clock,
@@ -151,8 +325,17 @@ where
         refused: None,
     };
     let tokens = [terms.token];
-    let mut lobby = Lobby::new(rt, alloc, &listener, &tokens, terms.turns, terms.log);
-    let result = receive_from(rt, &mut lobby, &mut receiver, writer, terms, watch);
+    accept_without_waits(&listener);
+    let result = receive_from(
+        rt,
+        &listener,
+        &tokens,
+        keys,
+        &mut receiver,
+        writer,
+        terms,
+        watch,
+    );
     watch.end();
     tell_end(rt, terms.log, u64::from(STREAM), &result);
     Ended {

@@ -665,8 +665,8 @@ rows =
       places = codes "receive" ∷
           codes "connector" ∷
           [];
-      cause = codes "No connection could be accepted in 100 tries in a row, 10 ms apart. A `connector` ends so only" ∷
-          codes "if none of its threads has a connection; otherwise it continues to try." ∷
+      cause = codes "No connection could be accepted in 100 tries in a row, 10 ms apart, or `receive` could make no" ∷
+          codes "thread. Both commands end so only once none of their threads has a connection." ∷
           [];
       advice = codes "What to do: The process may have too many open files: see `ulimit -n`." ∷ [];
     } ∷

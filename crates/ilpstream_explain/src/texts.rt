@@ -420,8 +420,8 @@ const FAULT_80: &str = "80  ilpstream_main RunError::NoListener, in receive, con
     What to do: Another program has the port, the address is not one of this host, or a port below
     1,024 needs a right.
 80  ilpstream_serving TransferError::Accept, in receive, connector
-    No connection could be accepted in 100 tries in a row, 10 ms apart. A `connector` ends so only
-    if none of its threads has a connection; otherwise it continues to try.
+    No connection could be accepted in 100 tries in a row, 10 ms apart, or `receive` could make no
+    thread. Both commands end so only once none of their threads has a connection.
     What to do: The process may have too many open files: see `ulimit -n`.
 Numbers of the library:
 80  st_http HttpError::ReadFault

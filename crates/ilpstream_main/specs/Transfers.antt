@@ -62,6 +62,7 @@ pub record AreTermsOut (s : SendSettings) (c : Credentials) (t : SendTerms) : Ty
 pub record AreTermsIn (s : ReceiveSettings) (c : Credentials) (t : ReceiveTerms) : Type 0 where
   pub token : t.token.now ≡ string_bytes c.token
   pub receive_max : t.receive_max ≡ s.receive_max
+  pub workers : t.workers ≡ s.workers
   pub patience : t.patience ≡ s.patience
   pub turns : t.turns ≡ most_turns
 

@@ -21,24 +21,26 @@ use crate::obstacle::Obstacle;
 use crate::progress::{Side, Teller};
 use crate::send::widest;
 use crate::totals::nothing_yet;
-use ilpstream_ends::{receive_on, server_end};
+use ilpstream_ends::{ReceivingEnd, receive_on, server_end};
 use ilpstream_frames::TURNS;
 use ilpstream_log::Start;
 use ilpstream_serving::{ReceiveTerms, RuntimeClock, TransferError, Watch};
 use ilpstream_settings::ReceiveSettings;
 use st_devices::CountWrite;
-use st_end::{EndState, Totals};
+use st_end::Totals;
 use std::alloc::Global;
 use std::fs::{File, Files};
 use std::io::Write;
 use std::net::{Net, TcpListener, TcpStream};
+use std::sync::Wait;
+use std::thread::Threads;
 
 /// The end of a receiver by these settings, with this secret. Fails if memory is refused.
 fn end_of(
     alloc: Global,
     settings: &ReceiveSettings<'_>,
     secret: [u8; 32],
-) -> Result<EndState<Global>, RunError>
+) -> Result<ReceivingEnd, RunError>
     requires { IsReceiver settings.now }
     ensures made { IfOk result (λ e. e ≡ receiver_end settings.now secret) }
     ensures refused { IsOkUnless result (Transfer (transfer.End refusals.NoMemory)) }
@@ -62,6 +64,7 @@ fn terms_of<'a>(
         token: credentials.token.as_str(),
         receive_max: settings.receive_max,
         patience: settings.patience,
+        workers: settings.workers,
         turns: TURNS,
         log,
     }
@@ -94,7 +97,12 @@ fn listener_of<'a, N: Net<Listener = TcpListener, Stream = TcpStream> + std::tim
 fn transfer<
     'a,
     W: Write,
-    N: Net<Listener = TcpListener, Stream = TcpStream> + Files<File = File> + std::time::Clock,
+    N: Net<Listener = TcpListener, Stream = TcpStream>
+        + Files<File = File>
+        + Threads
+        + Wait
+        + std::time::Clock
+        + Sync,
 >(
     rt: &N,
     alloc: Global,
@@ -199,7 +207,12 @@ fn receive_begun<
     'a,
     W: Write,
     T: Write,
-    N: Net<Listener = TcpListener, Stream = TcpStream> + Files<File = File> + std::time::Clock,
+    N: Net<Listener = TcpListener, Stream = TcpStream>
+        + Files<File = File>
+        + Threads
+        + Wait
+        + std::time::Clock
+        + Sync,
 >(
     rt: &N,
     alloc: Global,
@@ -238,7 +251,12 @@ fn receive_begun<
 pub(crate) fn receive<
     'a,
     W: Write,
-    N: Net<Listener = TcpListener, Stream = TcpStream> + Files<File = File> + std::time::Clock,
+    N: Net<Listener = TcpListener, Stream = TcpStream>
+        + Files<File = File>
+        + Threads
+        + Wait
+        + std::time::Clock
+        + Sync,
 >(
     rt: &N,
     alloc: Global,

@@ -30,6 +30,8 @@ pub struct ReceiveTerms<'a> {
     pub receive_max: u64,
     /// How many seconds may pass without a valid request, from 1 up. `None` if any number may.
     pub patience: Option<u64>,
+    /// The number of threads that accept connections and read requests.
+    pub workers: u8,
     /// The most connections that are accepted, and the most I/O calls of each.
     pub turns: u64,
     /// The log to which events are reported. `None` if there is none.

@@ -42,7 +42,7 @@ pub fn millis_of(time: Duration) -> i32
 }
 
 /// How long a receiver waits for a request, and until when.
-#[derive(Drop)]
+#[derive(Clone, Copy)]
 pub struct Patience {
     time: Option<Duration>,
     deadline: Option<Instant>,

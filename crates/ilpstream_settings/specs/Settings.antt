@@ -96,6 +96,7 @@ pub record ReceiveTexts : Type 0 where
   pub address : List ℕ
   pub peer : List ℕ
   pub receive_max : List ℕ
+  pub workers : List ℕ
   pub patience : Option (List ℕ)
   pub totals : Option (List ℕ)
   pub log : Option (List ℕ)
@@ -112,6 +113,7 @@ receive_texts o = record {
   address = o.address.now;
   peer = o.peer.now;
   receive_max = o.receive_max.now;
+  workers = o.workers.now;
   patience = said o.patience;
   totals = said o.totals;
   log = said o.log;
@@ -178,6 +180,7 @@ pub record IsReceive (o : ReceiveTexts) (s : ReceiveSettings) : Type 0 where
   pub address : (s.address.now ≡ o.address) × (is_address o.address ≡ true)
   pub peer : (s.peer.now ≡ o.peer) × (is_address o.peer ≡ true)
   pub receive_max : IsWithin 0 most_money o.receive_max s.receive_max
+  pub workers : IsWithin 1 most_workers o.workers s.workers
   pub patience : IsChosen 1 86_400 o.patience s.patience
   pub totals : said s.totals ≡ o.totals
   pub log : said s.log ≡ o.log

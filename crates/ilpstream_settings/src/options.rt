@@ -65,6 +65,8 @@ pub struct ReceiveOptions<'a> {
     pub peer: &'a str,
     /// The text of `--receive-max`.
     pub receive_max: &'a str,
+    /// The text of `--workers`.
+    pub workers: &'a str,
     /// The text of `--patience`, if it is given.
     pub patience: Option<&'a str>,
     /// The text of `--totals`, if it is given.

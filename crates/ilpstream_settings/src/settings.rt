@@ -97,6 +97,8 @@ pub struct ReceiveSettings<'a> {
     pub peer: &'a str,
     /// The most money that is accepted on the stream, in units: 0, the default, to 2^63 - 1.
     pub receive_max: u64,
+    /// The number of threads that read requests: 1 to 16, by default 4.
+    pub workers: u8,
     /// The number of seconds that may pass without a valid request: 1 to 86,400. `None`, the default, is any number.
     pub patience: Option<u64>,
     /// The name of the file that the totals are written to, if one was given.
@@ -236,6 +238,7 @@ impl<'a> ReceiveSettings<'a> {
             address: address(options.address)?,
             peer: address(options.peer)?,
             receive_max: number(options.receive_max, 0, MAX_MONEY)?,
+            workers: number(options.workers, 1, MAX_WORKERS)? as u8,
             patience: chosen(options.patience, 1, MAX_PATIENCE)?,
             totals: options.totals,
             log: options.log,

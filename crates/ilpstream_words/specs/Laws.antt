@@ -71,6 +71,7 @@ ReceiveSaysItsTexts = (listen token secret address peer : Text) → (refusals (r
       address = address;
       peer = peer;
       receive_max = codes "0";
+      workers = codes "4";
       patience = None;
       totals = None;
       log = None;

@@ -117,6 +117,10 @@ with_spread s = with_rule s (with_default (codes "10") (number_rule (codes "pati
 abbrev pub with_tries : Shape → Shape
 with_tries s = with_spread (with_workers s)
 
+-- how many threads a receiver has, and how long it waits for a request
+abbrev pub with_waiting : Shape → Shape
+with_waiting s = with_rule (with_workers s) patience_rule
+
 -- whom a sender sends to
 abbrev pub with_peers : Shape → Shape
 with_peers s = with_ends (with_rule s (required_rule (codes "to")))
@@ -184,6 +188,7 @@ receive = record (new_shape (codes "receive")) {
       ∷ required_rule (codes "address")
       ∷ required_rule (codes "peer")
       ∷ with_default (codes "0") (number_rule (codes "receive-max") 0 most_money)
+      ∷ with_default (codes "4") (number_rule (codes "workers") 1 most_workers)
       ∷ patience_rule
       ∷ totals_rule
       ∷ log_rule

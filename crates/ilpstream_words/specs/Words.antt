@@ -52,6 +52,7 @@ receive_texts rows = record {
   address = value_of (codes "address") rows;
   peer = value_of (codes "peer") rows;
   receive_max = value_of (codes "receive-max") rows;
+  workers = value_of (codes "workers") rows;
   patience = first_of (codes "patience") rows;
   totals = first_of (codes "totals") rows;
   log = first_of (codes "log") rows;

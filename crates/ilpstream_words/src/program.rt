@@ -156,6 +156,16 @@ fn with_tries<'a>(alloc: Global, command: Command<'a>) -> Result<Command<'a>, Al
     with_spread(alloc, command)
 }
 
+/// The command with the options for the number of a receiver's threads, and for how long it waits for a request.
+fn with_waiting<'a>(alloc: Global, command: Command<'a>) -> Result<Command<'a>, AllocError>
+    requires { has_globals command ≡ false }
+    ensures { IfOk result (HasShape (spec.with_waiting (shape_of command.entry))) }
+{
+    let help = "Number of threads that read requests, 1 to 16";
+    let command = with_workers(alloc, command, help)?;
+    with_patience(alloc, command)
+}
+
 /// The command with the option for the file of totals.
 fn with_totals<'a>(
     alloc: Global,
@@ -306,7 +316,7 @@ fn receive<'a>(alloc: Global) -> Result<Command<'a>, AllocError>
     let command = with_ends(alloc, command, peer)?;
     let most = "The most money to accept on the stream, in units, 0 to 2^63 - 1";
     let command = with_money(alloc, command, "receive-max", most)?;
-    let command = with_patience(alloc, command)?;
+    let command = with_waiting(alloc, command)?;
     let command = with_reports(alloc, command, TOTALS_HELP)?;
     with_running(alloc, command)
 }

@@ -106,6 +106,7 @@ pub(crate) fn receive<'a>(matches: &ArgMatches<'a>) -> ReceiveOptions<'a>
         address: value(matches, "address"),
         peer: value(matches, "peer"),
         receive_max: value(matches, "receive-max"),
+        workers: value(matches, "workers"),
         patience: chosen(matches, "patience"),
         totals: chosen(matches, "totals"),
         log: chosen(matches, "log"),

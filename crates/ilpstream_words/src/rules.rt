@@ -62,7 +62,7 @@ fn receive_rule(it: &ReceiveOptions<'_>) -> &'static str {
     if let Some(rule) = end_rule(it.token, it.secret, it.address, it.peer) {
         return rule;
     }
-    if is_number(it.receive_max) && is_number(it.patience.unwrap_or("1")) {
+    if is_number(it.receive_max) && is_number(it.workers) && is_number(it.patience.unwrap_or("1")) {
         "--listen is HOST:PORT, with a port up to 65535"
     } else {
         DIGITS

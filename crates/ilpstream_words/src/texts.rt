@@ -61,10 +61,11 @@ Faults: 54, 58, 59, 69, 86, 89, 90, 91, 93, 94, 98, 99.
 
 /// The end of the help of `receive`.
 pub const AFTER_RECEIVE_HELP: &str =
-    "It answers requests of ILP over HTTP, without TLS, one after another; each carries one packet. The
-data that arrive on stream 1 are written to standard output before the next request is accepted. It
-ends with exit status 0 once the sender's close was answered, with fault 92 where the sender aborted
-the stream, and with fault 88 where no valid request arrived for as long as --patience allows.
+    "It answers requests of ILP over HTTP, without TLS; each carries one packet. They are judged one
+after another, and the data that arrive on stream 1 are written to standard output before the next
+one is judged. It ends with exit status 0 once the sender's close was answered, with fault 92 where
+the sender aborted the stream, and with fault 88 where no valid request arrived for as long as
+--patience allows.
 
 Example:
   ./ilpstream receive --listen 127.0.0.1:7771 --token hub --address example.bob --peer example.alice \\

@@ -27,14 +27,14 @@ abbrev pub counted : ℕ → ℕ
 counted n = min n last_count
 
 -- a device's count of errors after a call: one more if the call reports a fault of it, and the same otherwise
-abbrev pub faults_told : {T : Type 0} → Result T FileError → ℕ → ℕ
-faults_told (Ok x) count = count
-faults_told (Err (ReadFault bytes)) count = count_after 1 count
-faults_told (Err (WriteFault bytes)) count = count_after 1 count
-faults_told (Err (Aborted code bytes)) count = count
-faults_told (Err (Turns bytes)) count = count
-faults_told (Err (NoMemory bytes)) count = count
-faults_told (Err (Closed bytes)) count = count
+abbrev pub faults_reported : {T : Type 0} → Result T FileError → ℕ → ℕ
+faults_reported (Ok x) count = count
+faults_reported (Err (ReadFault bytes)) count = count_after 1 count
+faults_reported (Err (WriteFault bytes)) count = count_after 1 count
+faults_reported (Err (Aborted code bytes)) count = count
+faults_reported (Err (Turns bytes)) count = count
+faults_reported (Err (NoMemory bytes)) count = count
+faults_reported (Err (Closed bytes)) count = count
 
 -- the allowed calls were used up
 abbrev pub IsTurns : FileError → Type 0

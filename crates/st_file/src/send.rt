@@ -1,7 +1,7 @@
 //! How the bytes of a reader are moved to a sink.
 
 ghost use Rattle.std.specs.Prelude.{◌≡◌, ◌<◌, OnOk, IfOk, IfErr, IsOk};
-ghost use Rattle.st_file.specs.Errors.{IsTurns, faults_told};
+ghost use Rattle.st_file.specs.Errors.{IsTurns, faults_reported};
 ghost use Rattle.st_file.specs.Sends.{ExplainsSend, PutsEnd, PutsPiece, ReadsPiece, SentAll};
 ghost use Rattle.st_file.specs.Spending.{SpendsTurns, TakesAsks};
 ghost use Rattle.st_devices.specs.Tallies.{TakesTurns, device_of, tally_of};
@@ -24,7 +24,7 @@ fn read_piece<R: Read, A: Allocator + Copy>(
     turns: &mut u64,
 ) -> Result<Vec<u8, A>, FileError>
     ensures read { ReadsPiece sent (R.remaining (device_of reader.old)) (R.remaining (device_of reader.new)) result }
-    ensures faults { (tally_of reader.new).faults ≡ faults_told result (tally_of reader.old).faults }
+    ensures faults { (tally_of reader.new).faults ≡ faults_reported result (tally_of reader.old).faults }
     ensures turns { TakesTurns (tally_of reader.old) (tally_of reader.new) turns.old turns.new }
     ensures fewer { IsOk result → turns.new < turns.old }
     ensures out_of_turns { IfErr result (λ e. IsTurns e → turns.new ≡ 0) }
@@ -109,7 +109,7 @@ pub fn send_all<R: Read, K: Sink<Vec<u8, A>>, A: Allocator + Copy>(
 ) -> Result<u64, FileError>
     ensures all { IfOk result (SentAll (record { before = R.remaining (device_of reader.old); after = R.remaining (device_of reader.new); old = K.taken sink.old; new = K.taken sink.new })) }
     ensures why { IfErr result (ExplainsSend (record { before = R.remaining (device_of reader.old); after = R.remaining (device_of reader.new); old = K.taken sink.old; new = K.taken sink.new })) }
-    ensures faults { (tally_of reader.new).faults ≡ faults_told result (tally_of reader.old).faults }
+    ensures faults { (tally_of reader.new).faults ≡ faults_reported result (tally_of reader.old).faults }
     ensures turns { SpendsTurns result (tally_of reader.old) (tally_of reader.new) (K.taken sink.old).calls (K.taken sink.new).calls turns }
 {
     let mut left = turns;

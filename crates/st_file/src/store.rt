@@ -2,7 +2,7 @@
 
 ghost use Rattle.std.specs.Prelude.{◌≡◌, ◌<◌, true, OnOk, IfOk, IfErr, IsOk};
 ghost use Rattle.std.specs.Io.KnownBytes.{Keeps};
-ghost use Rattle.st_file.specs.Errors.{IsTurns, faults_told};
+ghost use Rattle.st_file.specs.Errors.{IsTurns, faults_reported};
 ghost use Rattle.st_file.specs.Spending.{SpendsTurns, TakesAsks};
 ghost use Rattle.st_file.specs.Stores.{ExplainsStore, Flushes, GivesNext, StoredAll, WritesPiece};
 ghost use Rattle.st_devices.specs.Tallies.{TakesTurns, device_of, tally_of};
@@ -49,7 +49,7 @@ pub fn write_piece<W: Write>(
     turns: &mut u64,
 ) -> Result<u64, FileError>
     ensures written { WritesPiece written (W.contents (device_of writer.old)) (W.contents (device_of writer.new)) bytes.now result }
-    ensures faults { (tally_of writer.new).faults ≡ faults_told result (tally_of writer.old).faults }
+    ensures faults { (tally_of writer.new).faults ≡ faults_reported result (tally_of writer.old).faults }
     ensures turns { TakesTurns (tally_of writer.old) (tally_of writer.new) turns.old turns.new }
     ensures out_of_turns { IfErr result (λ e. IsTurns e → turns.new ≡ 0) }
 {
@@ -74,7 +74,7 @@ pub fn flush_all<W: Write>(
     ensures bytes { Keeps (W.contents (device_of writer.old)) (W.contents (device_of writer.new)) }
     ensures flushed { OnOk result ((tally_of writer.new).flushed ≡ true) }
     ensures why { Flushes written result }
-    ensures faults { (tally_of writer.new).faults ≡ faults_told result (tally_of writer.old).faults }
+    ensures faults { (tally_of writer.new).faults ≡ faults_reported result (tally_of writer.old).faults }
     ensures turns { TakesTurns (tally_of writer.old) (tally_of writer.new) turns.old turns.new }
     ensures out_of_turns { IfErr result (λ e. IsTurns e → turns.new ≡ 0) }
 {
@@ -103,7 +103,7 @@ pub fn store_all<S: Source<A>, W: Write, A: Allocator + Copy>(
     ensures all { IfOk result (StoredAll (record { before = W.contents (device_of writer.old); after = W.contents (device_of writer.new); old = S.given source.old; new = S.given source.new })) }
     ensures flushed { OnOk result ((tally_of writer.new).flushed ≡ true) }
     ensures why { IfErr result (ExplainsStore (record { before = W.contents (device_of writer.old); after = W.contents (device_of writer.new); old = S.given source.old; new = S.given source.new })) }
-    ensures faults { (tally_of writer.new).faults ≡ faults_told result (tally_of writer.old).faults }
+    ensures faults { (tally_of writer.new).faults ≡ faults_reported result (tally_of writer.old).faults }
     ensures turns { SpendsTurns result (tally_of writer.old) (tally_of writer.new) (S.given source.old).calls (S.given source.new).calls turns }
 {
     let mut left = turns;

@@ -35,8 +35,8 @@ const SENDER: &str = "test.a";
 
 const RECEIVER: &str = "test.b";
 
-/// What a sender offers, how much of it has to arrive, and by how many workers it sends in how many rounds; and how much a
-/// receiver accepts, in how many connections.
+/// What a sender offers, how much of it has to arrive, and in how many rounds of its workers; how much a receiver accepts, in how
+/// many connections; and how many workers each of both has.
 #[derive(Clone, Copy)]
 pub(crate) struct Terms {
     pub(crate) money: u64,
@@ -91,7 +91,11 @@ pub(crate) fn nothing_yet() -> Totals {
 }
 
 /// The receiver `test.b`, at this listener and into this writer.
-pub(crate) fn receive<L: AwaitListener + Drop, W: Write, R: std::time::Clock>(
+pub(crate) fn receive<
+    L: AwaitListener + Send + Sync + Drop,
+    W: Write,
+    R: Threads + Wait + std::time::Clock + Sync,
+>(
     rt: &R,
     alloc: Global,
     listener: L,
@@ -99,7 +103,7 @@ pub(crate) fn receive<L: AwaitListener + Drop, W: Write, R: std::time::Clock>(
     terms: Terms,
 ) -> Result<u64, TransferError>
 where
-    L::Stream: Read + Write + OpenStream,
+    L::Stream: Read + Write + OpenStream + Send,
 {
     receive_telling(rt, alloc, listener, writer, terms).result
 }
@@ -113,15 +117,13 @@ fn no_end(error: TransferError) -> Ended {
 }
 
 /// The receiver `test.b`, at this listener and into this writer, and the totals of its end.
-pub(crate) fn receive_telling<L: AwaitListener + Drop, W: Write, R: std::time::Clock>(
-    rt: &R,
-    alloc: Global,
-    listener: L,
-    writer: &mut Counting<W>,
-    terms: Terms,
-) -> Ended
+pub(crate) fn receive_telling<
+    L: AwaitListener + Send + Sync + Drop,
+    W: Write,
+    R: Threads + Wait + std::time::Clock + Sync,
+>(rt: &R, alloc: Global, listener: L, writer: &mut Counting<W>, terms: Terms) -> Ended
 where
-    L::Stream: Read + Write + OpenStream,
+    L::Stream: Read + Write + OpenStream + Send,
 {
     let Some(config) = config() else {
         return no_end(TransferError::NoMemory);
@@ -135,6 +137,7 @@ where
                 token: TOKEN,
                 receive_max: terms.receive_max,
                 patience: None,
+                workers: terms.workers,
                 turns: terms.connections,
                 log: None,
             };

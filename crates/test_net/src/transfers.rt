@@ -1,6 +1,6 @@
 //! A receiver and a sender at work together, each in a thread.
 
-use crate::sides::{Counter, Terms, receive, send};
+use crate::sides::{Counter, Terms, receive, send, with_money};
 use ilpstream_serving::TransferError;
 use st_devices::Counting;
 use std::alloc::Global;
@@ -122,5 +122,22 @@ where
         told,
         bytes: writer.into_inner(),
         sent,
+    }
+}
+
+/// A transfer by 1, 4 and 16 workers of each side: each byte is written once, in order.
+#[test]
+fn all_arrives_by_any_number_of_workers(rt: HostRuntime) {
+    let alloc = rt.alloc();
+    let bytes = pattern(&rt, alloc, 500_000);
+    for workers in [1, 4, 16] {
+        let Place { listener, host } = listen(&rt, alloc);
+        let (host, terms) = (host.as_str(), with_money(0, workers));
+        let kept = transfer(&rt, alloc, listener, host, &[], bytes.as_slice(), terms);
+        assert!(rt;
+            kept.told == Ok(500_000) && kept.sent == Ok(500_000),
+            "{workers}"
+        );
+        assert!(rt; kept.bytes.as_slice() == bytes.as_slice(), "{workers}");
     }
 }

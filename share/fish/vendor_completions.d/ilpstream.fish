@@ -40,6 +40,7 @@ complete -c ilpstream -n '__fish_seen_subcommand_from receive' -l secret-file -r
 complete -c ilpstream -n '__fish_seen_subcommand_from receive' -l address -x -d 'the ILP address of this end'
 complete -c ilpstream -n '__fish_seen_subcommand_from receive' -l peer -x -d 'the ILP address of the sender'
 complete -c ilpstream -n '__fish_seen_subcommand_from receive' -l receive-max -x -d 'the most money that is accepted, in units'
+complete -c ilpstream -n '__fish_seen_subcommand_from receive' -l workers -x -d 'threads that read requests; fewer if no more can be made'
 complete -c ilpstream -n '__fish_seen_subcommand_from receive' -l patience -x -d 'how long no valid request may arrive'
 complete -c ilpstream -n '__fish_seen_subcommand_from receive' -l totals -r -F -d 'where totals are written at the end'
 complete -c ilpstream -n '__fish_seen_subcommand_from receive' -l log -r -F -d 'where a line for each event is appended'

@@ -1,0 +1,234 @@
+//! The threads of a receiver that accept connections, read requests and open them.
+
+ghost use Rattle.std.specs.Prelude.{◌≡◌, ◌<◌, Err, IfOk, IfSome, vec_len};
+ghost use Rattle.ilpstream_serving.specs.Answering.{IsWholeAt};
+
+use crate::asked::{Answered, Asked, OpeningKeys, ReceiverName, reply};
+use crate::lobby::{Guest, Lobby, MOST_GUESTS};
+use crate::readers::Leaves;
+use crate::requests::{Mailbox, Requests};
+use ilpstream_serving::{AwaitListener, ReceiveTerms, shut};
+use std::alloc::Global;
+use std::io::{Read, Write};
+use std::net::OpenStream;
+use std::sync::{Mutex, Wait};
+use std::thread;
+use std::thread::Threads;
+use std::time::Clock;
+
+/// What the threads of a receiver share.
+#[derive(Drop)]
+pub(crate) struct Shared<'a, N: ReceiverName, L> {
+    pub(crate) alloc: Global,
+    pub(crate) listener: &'a L,
+    pub(crate) tokens: &'a [&'a str],
+    pub(crate) keys: OpeningKeys<N>,
+    pub(crate) requests: Requests<N>,
+    /// One for each thread that reads requests, by its number.
+    pub(crate) mailboxes: Vec<Mailbox<N>>,
+    /// Locked by the thread that waits for a new connection: one thread at a time does.
+    pub(crate) turn: Mutex<()>,
+    pub(crate) terms: ReceiveTerms<'a>,
+}
+
+impl<N: ReceiverName, L: AwaitListener> Shared<'_, N, L> {
+    /// Gives a thread the answer to its request.
+    pub(crate) fn answer(&self, rt: &impl Wait, by: u8, answered: Answered<N>) {
+        if let Some(mailbox) = self.mailboxes.get(usize::from(by)) {
+            mailbox.put(rt, answered);
+        }
+    }
+
+    /// Has each thread that reads requests end: no further connection is accepted, and those that wait for an answer get
+    /// none.
+    pub(crate) fn end(&self, rt: &impl Wait) {
+        self.requests.end(rt);
+        for mailbox in &self.mailboxes {
+            mailbox.close(rt);
+        }
+        shut(self.listener);
+    }
+
+    /// No further connection is accepted. Those on which a request is on its way are finished.
+    pub(crate) fn stop(&self, rt: &impl Wait) {
+        self.requests.stop(rt);
+        shut(self.listener);
+    }
+}
+
+/// How many of `turns` connections one of the threads may accept: an equal share, and the first thread the rest too.
+fn share_of(turns: u64, threads: u8, is_first: bool) -> u64 {
+    let threads = u64::from(threads.max(1));
+    let share = turns / threads;
+    if is_first {
+        return share + turns % threads;
+    }
+    share
+}
+
+/// Does what can be done at a thread's connections, and accepts a further one if it `accepts` any. Gives one once its request has arrived intact, and fails if the
+/// thread is to end.
+fn turn<'g, N: ReceiverName, L: AwaitListener, R: Wait + Clock>(
+    rt: &R,
+    shared: &Shared<'_, N, L>,
+    lobby: &mut Lobby<'g, L, R>,
+    accepts: bool,
+) -> Result<Option<Guest<'g, L::Stream, R>>, Leaves>
+where
+    L::Stream: Read + Write + OpenStream,
+    ensures whole { IfOk result (λ came. IfSome came (λ g. IsWholeAt g.reading.standing)) }
+    ensures done { result ≡ Err Leaves.Done → (lobby.new.left ≡ 0) × (vec_len lobby.new.guests ≡ 0) }
+    ensures failed { result ≡ Err Leaves.Failed → 0 < lobby.new.left }
+{
+    let Some(pace) = shared.requests.pace(rt) else {
+        return Err(Leaves::Over);
+    };
+    if pace.is_stopped {
+        lobby.stop();
+    }
+    if lobby.is_done() {
+        return Err(Leaves::Done);
+    }
+    match lobby.turn(pace.time, accepts) {
+        Ok(came) => Ok(came),
+        Err(_) => Err(Leaves::Failed),
+    }
+}
+
+/// The same. One thread at a time waits for a new connection; one without a connection waits until it may.
+fn turn_by_turn<'g, N: ReceiverName, L: AwaitListener, R: Wait + Clock>(
+    rt: &R,
+    shared: &Shared<'_, N, L>,
+    lobby: &mut Lobby<'g, L, R>,
+) -> Result<Option<Guest<'g, L::Stream, R>>, Leaves>
+where
+    L::Stream: Read + Write + OpenStream,
+    ensures whole { IfOk result (λ came. IfSome came (λ g. IsWholeAt g.reading.standing)) }
+    ensures done { result ≡ Err Leaves.Done → (lobby.new.left ≡ 0) × (vec_len lobby.new.guests ≡ 0) }
+    ensures failed { result ≡ Err Leaves.Failed → 0 < lobby.new.left }
+{
+    if lobby.is_empty() {
+        let held = shared.turn.lock(rt);
+        let turned = turn(rt, shared, lobby, true);
+        drop(held);
+        return turned;
+    }
+    let held = shared.turn.try_lock();
+    let turned = turn(rt, shared, lobby, held.is_some());
+    drop(held);
+    turned
+}
+
+/// Opens the body of a request, has it judged, and waits for the answer. `None` if there is none.
+fn asked<N: ReceiverName, L: AwaitListener>(
+    rt: &impl Wait,
+    shared: &Shared<'_, N, L>,
+    by: u8,
+    body: &[u8],
+) -> Option<Answered<N>> {
+    let asked = Asked::of(shared.alloc, &shared.keys, by, body);
+    match (
+        shared.mailboxes.get(usize::from(by)),
+        shared.requests.put(rt, asked),
+    ) {
+        (Some(mailbox), Ok(())) => mailbox.take(rt),
+        _ => None,
+    }
+}
+
+/// Has a request judged, writes the answer to it, and ends the connection. What fails on the connection ends it alone.
+fn serve<N: ReceiverName, L: AwaitListener, S: Read + Write + OpenStream + Drop, R: Wait + Clock>(
+    rt: &R,
+    shared: &Shared<'_, N, L>,
+    by: u8,
+    guest: Guest<'_, S, R>,
+)
+    requires { IsWholeAt guest.reading.standing }
+{
+    let Guest {
+        mut stream,
+        reading,
+        mut turns,
+        ..
+    } = guest;
+    let Some(body) = reading.body() else {
+        return;
+    };
+    if let Some(answered) = asked(rt, shared, by, body) {
+        let _ = reply(shared.alloc, &mut stream, &reading, answered, &mut turns);
+    }
+}
+
+/// Reads requests at a thread's connections, and has each answered, until the thread is to end.
+fn serve_all<L: AwaitListener, N: ReceiverName, R: Wait + Clock>(
+    rt: &R,
+    shared: &Shared<'_, N, L>,
+    by: u8,
+    lobby: &mut Lobby<'_, L, R>,
+) -> Leaves
+where
+    L::Stream: Read + Write + OpenStream,
+    ensures done { result ≡ Leaves.Done → (lobby.new.left ≡ 0) × (vec_len lobby.new.guests ≡ 0) }
+    ensures failed { result ≡ Leaves.Failed → 0 < lobby.new.left }
+{
+    for _ in rt.forever() {
+        match turn_by_turn(rt, shared, lobby) {
+            Ok(Some(guest)) => serve(rt, shared, by, guest),
+            Ok(None) => {}
+            Err(leaves) => return leaves,
+        }
+    }
+    unreachable!()
+}
+
+/// A thread of a receiver, by its number: it has its share of the connections.
+fn open_alone<N: ReceiverName, L: AwaitListener, R: Wait + Clock>(
+    rt: &R,
+    shared: &Shared<'_, N, L>,
+    by: u8,
+)
+where
+    L::Stream: Read + Write + OpenStream,
+{
+    let ReceiveTerms {
+        workers,
+        turns,
+        log,
+        ..
+    } = shared.terms;
+    let mut lobby = Lobby::new(
+        rt,
+        shared.alloc,
+        shared.listener,
+        shared.tokens,
+        turns,
+        share_of(turns, workers, by == 0),
+        MOST_GUESTS / usize::from(workers.max(1)),
+        log,
+    );
+    let leaves = serve_all(rt, shared, by, &mut lobby);
+    shared.requests.leave(rt, leaves);
+}
+
+/// Reads requests by as many threads as the terms say, this one among them, or by fewer if not all can be made. Returns once
+/// each has ended.
+pub(crate) fn open_all<
+    'a,
+    N: ReceiverName + Send + Sync,
+    L: AwaitListener + Send + Sync,
+    R: Threads + Wait + Clock + Sync,
+>(rt: &'a R, shared: &'a Shared<'a, N, L>)
+where
+    L::Stream: Read + Write + OpenStream + Send,
+{
+    let threads = shared.terms.workers.max(1);
+    shared.requests.begin(rt, threads);
+    thread::scope(thread::scope_env(), rt, move |scope| {
+        for by in 1..threads {
+            if scope.spawn(move || open_alone(rt, shared, by)).is_err() {
+                shared.requests.leave(rt, Leaves::Done);
+            }
+        }
+        open_alone(rt, shared, 0);
+    });
+}
