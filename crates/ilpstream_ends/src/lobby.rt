@@ -359,8 +359,8 @@ where
     }
 
     /// Waits until something can be done, for 200 milliseconds at most, and does it: reads what has arrived on a connection,
-    /// or accepts one, if it `accepts` any. Gives a connection once its request has arrived intact. One whose request is refused is answered by its
-    /// status. The request of a new connection may take no longer than `time` to arrive.
+    /// or accepts one, if it `accepts` any. Gives a connection once its request has arrived intact. One whose request is
+    /// refused is answered by its status. The request of a new connection may take no longer than `time` to arrive.
     ///
     /// Fails with `Accept` if the listener gave no connection 100 times in a row while none was open.
     pub(crate) fn turn(

@@ -11,6 +11,7 @@ use ilpstream_serving::{AwaitListener, ReceiveTerms, shut};
 use std::alloc::Global;
 use std::io::{Read, Write};
 use std::net::OpenStream;
+use std::sync::atomic::{AtomicU64, Ordering};
 use std::sync::{Mutex, Wait};
 use std::thread;
 use std::thread::Threads;
@@ -26,8 +27,10 @@ pub(crate) struct Shared<'a, N: ReceiverName, L> {
     pub(crate) requests: Requests<N>,
     /// One for each thread that reads requests, by its number.
     pub(crate) mailboxes: Vec<Mailbox<N>>,
-    /// Locked by the thread that waits for a new connection: one thread at a time does.
+    /// Locked by the thread that waits for a new connection: of those without a connection one at a time does.
     pub(crate) turn: Mutex<()>,
+    /// How many threads are without a connection.
+    pub(crate) free: AtomicU64,
     pub(crate) terms: ReceiveTerms<'a>,
 }
 
@@ -66,8 +69,8 @@ fn share_of(turns: u64, threads: u8, is_first: bool) -> u64 {
     share
 }
 
-/// Does what can be done at a thread's connections, and accepts a further one if it `accepts` any. Gives one once its request has arrived intact, and fails if the
-/// thread is to end.
+/// Does what can be done at a thread's connections, and accepts a further one if it `accepts` any. Gives one once its
+/// request has arrived intact, and fails if the thread is to end.
 fn turn<'g, N: ReceiverName, L: AwaitListener, R: Wait + Clock>(
     rt: &R,
     shared: &Shared<'_, N, L>,
@@ -95,7 +98,8 @@ where
     }
 }
 
-/// The same. One thread at a time waits for a new connection; one without a connection waits until it may.
+/// The same. Of the threads without a connection one at a time waits for a new one. A thread with connections accepts a
+/// further one only if no thread is without: so no connection waits for a thread that is busy while another is free.
 fn turn_by_turn<'g, N: ReceiverName, L: AwaitListener, R: Wait + Clock>(
     rt: &R,
     shared: &Shared<'_, N, L>,
@@ -107,15 +111,15 @@ where
     ensures done { result ≡ Err Leaves.Done → (lobby.new.left ≡ 0) × (vec_len lobby.new.guests ≡ 0) }
     ensures failed { result ≡ Err Leaves.Failed → 0 < lobby.new.left }
 {
-    if lobby.is_empty() {
-        let held = shared.turn.lock(rt);
-        let turned = turn(rt, shared, lobby, true);
-        drop(held);
-        return turned;
+    if !lobby.is_empty() {
+        let accepts = shared.free.load(Ordering::Relaxed) == 0;
+        return turn(rt, shared, lobby, accepts);
     }
-    let held = shared.turn.try_lock();
-    let turned = turn(rt, shared, lobby, held.is_some());
+    shared.free.fetch_add(1, Ordering::Relaxed);
+    let held = shared.turn.lock(rt);
+    let turned = turn(rt, shared, lobby, true);
     drop(held);
+    shared.free.fetch_sub(1, Ordering::Relaxed);
     turned
 }
 

@@ -27,6 +27,7 @@ use std::alloc::{AllocError, Global};
 use std::io::{Read, Write};
 use std::marker::Brand;
 use std::net::OpenStream;
+use std::sync::atomic::AtomicU64;
 use std::sync::{Mutex, Wait};
 use std::thread::{Threads, join_mut};
 
@@ -236,6 +237,7 @@ where
         requests: Requests::new(alloc, Patience::new(rt, terms.patience)),
         mailboxes,
         turn: Mutex::new(()),
+        free: AtomicU64::new(0),
         terms,
     };
     receive_beside(rt, &shared, receiver, writer, watch)
