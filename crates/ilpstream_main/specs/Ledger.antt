@@ -25,8 +25,8 @@ use Rattle.ilpstream_ledger.specs.Names.{amounts_of}
 use Rattle.ilpstream_ledger.specs.Placing.{IsLate}
 use Rattle.ilpstream_ledger.specs.Settling.{IsOnce, IsSettled}
 use Rattle.ilpstream_ledger.specs.Texts.{account_text, ledger_text, repeated_text}
-use Rattle.ilpstream_main.specs.declared.error.RunError.{RunError}
-use Rattle.ilpstream_main.specs.declared.error.RunError.TheVariants as run
+use Rattle.ilpstream_net.specs.declared.error.RunError.{RunError}
+use Rattle.ilpstream_net.specs.declared.error.RunError.TheVariants as run
 
 -- the side of the books that a payment is taken off
 abbrev pub side_of : Paid → Side
