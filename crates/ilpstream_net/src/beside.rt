@@ -34,7 +34,7 @@ pub(crate) trait Place<W: Write> {
 }
 
 /// Replaces what the place holds by this text, as a whole. If that fails, the place keeps what it has.
-#[tactic(auto, using(crate::proofs::Telling::replaced))]
+#[tactic(auto, using(crate::proofs::Totalled::replaced))]
 pub(crate) fn replace<W: Write + Drop, P: Place<W>>(place: &mut P, text: &[u8]) -> Result<(), Fault>
     ensures whole { OnOk result (Replaced (P.held place.old) (P.held place.new) text.now) }
     ensures kept { OnErr result (P.held place.new ≡ P.held place.old) }

@@ -131,7 +131,7 @@ fn serve_reporting<
 /// Reads the table, and runs a connector by it, as the settings say. If the log or the pipe for orders cannot be opened, or
 /// the file for the totals cannot be made, nothing else is done. Sets `obstacle` if a file or an address prevents the run.
 #[tactic(auto, using(crate::proofs::Tables::bad_option, crate::proofs::Tables::no_memory))]
-pub fn connector<
+pub fn run_connector<
     'a,
     R: Read,
     N: Net<Listener = TcpListener, Stream = TcpStream>

@@ -27,10 +27,10 @@ mod serve;
 mod table_file;
 mod totals;
 
-pub use connector::connector;
+pub use connector::run_connector;
 pub use error::RunError;
 pub use obstacle::{Obstacle, words_of};
 pub use progress::{has_terminal, put_terminal};
-pub use receive::receive;
-pub use send::send;
+pub use receive::run_receive;
+pub use send::run_send;
 pub use totals::{Telling, place_for, tell_text};

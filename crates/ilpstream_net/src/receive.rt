@@ -248,7 +248,7 @@ fn receive_begun<
 /// one for events or totals, or the pipe by which it is asked things cannot be opened, nothing else is done. Sets
 /// `obstacle` if a file or an address prevents the transfer.
 #[tactic(auto, using(crate::proofs::Transfers::ends_receive, crate::proofs::Transfers::begins_no_receive))]
-pub fn receive<
+pub fn run_receive<
     'a,
     W: Write,
     N: Net<Listener = TcpListener, Stream = TcpStream>

@@ -257,7 +257,7 @@ fn send_begun<
 /// Sends the input and the money to a receiver, as the settings say. If a file of the token or the secret, or one for
 /// events or totals, cannot be opened, nothing else is done. Sets `obstacle` if a file prevents the transfer.
 #[tactic(auto, using(crate::proofs::Transfers::ends_send, crate::proofs::Transfers::begins_no_send))]
-pub fn send<
+pub fn run_send<
     'a,
     R: Read,
     N: Net<Listener = TcpListener, Stream = TcpStream>

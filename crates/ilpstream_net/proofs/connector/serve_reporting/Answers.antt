@@ -1,5 +1,5 @@
 use Rattle.st_devices.specs.Tallies.{device_of, tally_of}
-use Rattle.ilpstream_net.proofs.Telling.{table_told}
+use Rattle.ilpstream_net.proofs.Totalled.{table_told}
 use Rattle.ilpstream_net.proofs.connector.serve_reporting.Goals as goal
 
 pub returns-in-Ok-place_for : goal.returns-in-Ok-place_for

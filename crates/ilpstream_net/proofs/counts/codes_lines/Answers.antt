@@ -1,6 +1,6 @@
 use Rattle.std.proofs.Common.{◌∙◌, arith}
 use Rattle.ilpstream_net.specs.Totals.{code_text, lines_from}
-use Rattle.ilpstream_net.proofs.Telling.{next_line}
+use Rattle.ilpstream_net.proofs.Totalled.{next_line}
 use Rattle.ilpstream_net.proofs.counts.codes_lines.Goals as goal
 
 pub loop-place-init : goal.loop-place-init

@@ -1,6 +1,6 @@
 use Rattle.std.proofs.Common.{◌∙◌, arith}
 use Rattle.ilpstream_net.specs.Totals.{line_text, lines_from}
-use Rattle.ilpstream_net.proofs.Telling.{next_line}
+use Rattle.ilpstream_net.proofs.Totalled.{next_line}
 use Rattle.ilpstream_net.proofs.counts.lines_text.Goals as goal
 
 pub loop-number-init : goal.loop-number-init

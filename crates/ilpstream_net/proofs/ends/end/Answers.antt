@@ -1,4 +1,4 @@
-use Rattle.ilpstream_net.proofs.Telling.{never_bad}
+use Rattle.ilpstream_net.proofs.Totalled.{never_bad}
 use Rattle.ilpstream_net.proofs.ends.end.Goals as goal
 
 pub returns-clause-bad : goal.returns-clause-bad

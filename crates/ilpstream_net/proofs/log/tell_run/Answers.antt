@@ -1,5 +1,5 @@
 use Rattle.std.proofs.Common.{Ok}
-use Rattle.ilpstream_net.proofs.Telling.{untold}
+use Rattle.ilpstream_net.proofs.Totalled.{untold}
 use Rattle.ilpstream_net.proofs.log.tell_run.Goals as goal
 
 pub returns-in-None-clause-told : goal.returns-in-None-clause-told
