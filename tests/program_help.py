@@ -135,7 +135,7 @@ FIRST_LINES = [
     ("58", "ilpstream_local LocalFault::Failed, in local"),
     ("58", "ilpstream_serving TransferError::Failed, in send"),
     ("88", "ilpstream_serving TransferError::Silent, in receive"),
-    ("96", "ilpstream_main RunError::BadTable, in connector"),
+    ("96", "ilpstream_net RunError::BadTable, in connector"),
     ("116", "st_hop_books BooksError::NoAccount, in ledger"),
     ("91", "ilpstream_frames Fault::Output, in frames, local, send, receive, connector, ledger, explain"),
 ]

@@ -218,7 +218,7 @@ rows =
     } ∷
     record {
       number = 35;
-      home = codes "ilpstream_main";
+      home = codes "ilpstream_net";
       variant = codes "RunError::NoHop";
       places = codes "connector" ∷ [];
       cause = codes "In `connector`: out of memory for the accounts and the routes of its table. Nothing was listened" ∷
@@ -648,7 +648,7 @@ rows =
     } ∷
     record {
       number = 80;
-      home = codes "ilpstream_main";
+      home = codes "ilpstream_net";
       variant = codes "RunError::NoListener";
       places = codes "receive" ∷
           codes "connector" ∷
@@ -800,7 +800,7 @@ rows =
     } ∷
     record {
       number = 90;
-      home = codes "ilpstream_main";
+      home = codes "ilpstream_net";
       variant = codes "RunError::NoRandom";
       places = codes "send" ∷ [];
       cause = codes "In `send`: the file of random bytes cannot be opened." ∷ [];
@@ -914,7 +914,7 @@ rows =
     } ∷
     record {
       number = 96;
-      home = codes "ilpstream_main";
+      home = codes "ilpstream_net";
       variant = codes "RunError::BadTable";
       places = codes "connector" ∷ [];
       cause = codes "In `connector`, the table is bad. It is not UTF-8, or a line is neither an account nor a route." ∷
@@ -954,7 +954,7 @@ rows =
     } ∷
     record {
       number = 98;
-      home = codes "ilpstream_main";
+      home = codes "ilpstream_net";
       variant = codes "RunError::BadOption";
       places = codes "local" ∷
           codes "send" ∷

@@ -154,7 +154,7 @@ const FAULT_34: &str = "Numbers of the library:
     What to do: Correct the table.
 ";
 
-const FAULT_35: &str = "35  ilpstream_main RunError::NoHop, in connector
+const FAULT_35: &str = "35  ilpstream_net RunError::NoHop, in connector
     In `connector`: out of memory for the accounts and the routes of its table. Nothing was listened
     to.
     What to do: Give the process more memory.
@@ -415,7 +415,7 @@ const FAULT_79: &str = "Numbers of the library:
     What to do: Add writers before the stream's last writer ends.
 ";
 
-const FAULT_80: &str = "80  ilpstream_main RunError::NoListener, in receive, connector
+const FAULT_80: &str = "80  ilpstream_net RunError::NoListener, in receive, connector
     Nothing can listen at `--listen`.
     What to do: Another program has the port, the address is not one of this host, or a port below
     1,024 needs a right.
@@ -498,7 +498,7 @@ const FAULT_90: &str = "90  ilpstream_frames Fault::Input, in frames, local, sen
 90  ilpstream_local LocalFault::Input, in local
     In `local`: standard input cannot be read.
     What to do: Look at the file after `<`.
-90  ilpstream_main RunError::NoRandom, in send
+90  ilpstream_net RunError::NoRandom, in send
     In `send`: the file of random bytes cannot be opened.
     What to do: Look at `--random`.
 90  ilpstream_serving TransferError::IvFault, in send
@@ -551,7 +551,7 @@ const FAULT_95: &str = "95  ilpstream_frames LineError::NotHex, in a line of fra
     What to do: Remove byte order marks, `0x`, spaces and tabs.
 ";
 
-const FAULT_96: &str = "96  ilpstream_main RunError::BadTable, in connector
+const FAULT_96: &str = "96  ilpstream_net RunError::BadTable, in connector
     In `connector`, the table is bad. It is not UTF-8, or a line is neither an account nor a route.
     Or a number is out of its range, or no request may have a host or a token of it. Or a route
     names an account that does not exist, a prefix is there twice, or a prefix is not an ILP
@@ -574,7 +574,7 @@ const FAULT_97: &str = "97  ilpstream_local LocalFault::Events, in local
 ";
 
 const FAULT_98: &str =
-    "98  ilpstream_main RunError::BadOption, in local, send, receive, connector, ledger, explain
+    "98  ilpstream_net RunError::BadOption, in local, send, receive, connector, ledger, explain
     The text of an option or an argument is bad. A number has no plus in front, a secret has 64
     hexadecimal digits, an address is an ILP address, and `--least` is NUM:DEN. A token and a
     HOST:PORT are such as a request may have, and `ledger --help` says what a payment is. Or the

@@ -1,10 +1,8 @@
--- How a connector with books, and the command `ledger`, may end.
-use Rattle.std.proofs.Common.{◌≡◌, ◌≢◌, ℕ, suc, ◌-◌, List, [], ◌∷◌, length, Option, Some, None, true, false, refl, sym, ap, subst, ◌∙◌, arith}
+-- How the command `ledger` may end.
+use Rattle.std.proofs.Common.{◌≡◌, ◌≢◌, ℕ, ◌-◌, List, Option, Some, None, false, refl, sym, ap, subst, ◌∙◌}
 use Rattle.std.specs.Io.KnownBytes.{Appends}
-use Rattle.std.specs.Prelude.{Bool, IfErr, IsErrAnd, IsSome, OnOk, Result, Ok, Err, option_map}
-use Rattle.std.specs.Borrow.{Bor}
+use Rattle.std.specs.Prelude.{Bool, IfErr, IsErrAnd, OnOk, Result, Ok, Err, option_map}
 use Rattle.sqlite_trees.specs.declared.store.Store.{Ghosts}
-use Rattle.st_hop.specs.declared.route.Route.{Route}
 use Rattle.st_devices.specs.Faults.{count_after}
 use Rattle.st_devices.specs.Tallies.{TakesTurns, device_of, tally_of}
 use Rattle.st_devices.specs.declared.counted.Counting.{Counting}
@@ -17,36 +15,14 @@ use Rattle.ilpstream_frames.specs.Endings.{most_turns, writer_faults}
 use Rattle.ilpstream_frames.specs.declared.error.Fault.{Fault}
 use Rattle.ilpstream_frames.specs.declared.error.Fault.TheVariants as fault
 use Rattle.ilpstream_settings.specs.declared.ledger.Payment.{Payment}
-use Rattle.ilpstream_settings.specs.declared.line.AccountLine.{AccountLine}
-use Rattle.ilpstream_settings.specs.Table.{names_from}
 use Rattle.ilpstream_ledger.specs.declared.error.LedgerError.{LedgerError}
 use Rattle.ilpstream_ledger.specs.Names.{amounts_of}
 use Rattle.ilpstream_ledger.specs.Placing.{IsLate}
 use Rattle.ilpstream_ledger.specs.Settling.{IsOnce, IsSettled}
 use Rattle.ilpstream_ledger.specs.Texts.{account_text}
 use Rattle.ilpstream_main.specs.Ledger.{EndsLedger, FailsToWrite, IsPrinted, IsPrintedAlone, IsPrintedAs, IsPrintedOnce, PrintsLedger, once_text}
-use Rattle.ilpstream_main.specs.Restored.{WhyNotRestored}
-use Rattle.ilpstream_main.specs.Table.{Serves, is_hop}
-use Rattle.ilpstream_main.specs.declared.error.RunError.{RunError}
-use Rattle.ilpstream_main.specs.declared.error.RunError.TheVariants as run
-
--- a table has a name for each account
-pub names_counted : (i : ℕ) (xs : List AccountLine) → length (names_from i xs) ≡ length xs
-unfolding names_from
-names_counted i [] = refl
-names_counted i (x ∷ xs) = ap suc (names_counted (suc i) xs)
-
--- what prevents a hop from continuing with books ends the connector
-pub not_restored : (T : Type 0) (own : List ℕ) (ledger : Option (Bor (List ℕ))) (xs : List AccountLine) (rs : List Route) (x : RunError) → IsSome ledger → is_hop own xs rs ≡ true → WhyNotRestored x
-    → Serves {T = T} own ledger xs rs (Err x)
-not_restored T own ledger xs rs (run.Fault x) asked made why = why
-not_restored T own ledger xs rs run.NoHop asked made why = made
-not_restored T own ledger xs rs (run.Ledger e) asked made why = (asked, made)
-not_restored T own ledger xs rs run.NoRandom asked made why = absurd why
-not_restored T own ledger xs rs run.NoListener asked made why = absurd why
-not_restored T own ledger xs rs run.BadTable asked made why = absurd why
-not_restored T own ledger xs rs run.BadOption asked made why = absurd why
-not_restored T own ledger xs rs (run.Transfer e) asked made why = absurd why
+use Rattle.ilpstream_net.specs.declared.error.RunError.{RunError}
+use Rattle.ilpstream_net.specs.declared.error.RunError.TheVariants as run
 
 -- a text that was not written
 pub fails_to_write : (x : Fault) (w v : Tally) (left : ℕ) → x ≢ fault.Input → x ≢ fault.NoMemory → v.faults ≡ writer_faults (Some x) w.faults → TakesTurns w v most_turns left → (x ≡ fault.Turns → left ≡ 0)

@@ -1,9 +1,6 @@
 pub mod Pieces
-pub mod Telling
 pub mod WordsTaken
 pub mod Asked
 pub mod Tables
 pub mod Ledgers
-pub mod Restoring
 pub mod Locals
-pub mod Transfers

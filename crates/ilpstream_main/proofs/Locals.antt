@@ -11,8 +11,8 @@ use Rattle.ilpstream_local.specs.declared.sends.LocalSends.{LocalSends}
 use Rattle.ilpstream_local.specs.Endings.{ComesBefore, Explains, GoesOver, WritesPart, most_bytes}
 use Rattle.ilpstream_local.specs.Sends.{is_past}
 use Rattle.ilpstream_settings.specs.declared.settings.LocalSettings.{LocalSettings}
-use Rattle.ilpstream_main.specs.declared.error.RunError.{RunError}
-use Rattle.ilpstream_main.specs.declared.error.RunError.TheVariants as run
+use Rattle.ilpstream_net.specs.declared.error.RunError.{RunError}
+use Rattle.ilpstream_net.specs.declared.error.RunError.TheVariants as run
 use Rattle.ilpstream_main.specs.declared.error.LocalError.{LocalError}
 use Rattle.ilpstream_main.specs.declared.error.LocalError.TheVariants as ended
 use Rattle.ilpstream_main.specs.Local.{EndsLocal, ended_within, written}

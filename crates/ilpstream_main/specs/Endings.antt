@@ -9,21 +9,20 @@ use Rattle.ilpstream_frames.specs.Endings.{RunsFrames, Says, TellsFault}
 use Rattle.ilpstream_frames.specs.Errors.{fault_number}
 use Rattle.ilpstream_frames.specs.Texts.{fault_text}
 use Rattle.ilpstream_local.specs.Endings as local
-use Rattle.ilpstream_settings.specs.declared.settings.ConnectorSettings.{ConnectorSettings}
 use Rattle.ilpstream_settings.specs.declared.settings.LocalSettings.{LocalSettings}
 use Rattle.ilpstream_words.specs.declared.request.Request.{Request}
 use Rattle.ilpstream_words.specs.declared.request.Request.TheVariants as request
-use Rattle.ilpstream_main.specs.declared.error.RunError.{RunError}
-use Rattle.ilpstream_main.specs.declared.error.RunError.TheVariants as run
+use Rattle.ilpstream_net.specs.declared.error.RunError.{RunError}
+use Rattle.ilpstream_net.specs.declared.error.RunError.TheVariants as run
 use Rattle.ilpstream_main.specs.declared.error.LocalError.{LocalError}
-use Rattle.ilpstream_main.specs.Errors.{number}
-use Rattle.ilpstream_main.specs.Table.{EndsByTable}
+use Rattle.ilpstream_net.specs.Errors.{number}
 use Rattle.ilpstream_main.specs.Ledger.{EndsLedger}
 use Rattle.ilpstream_main.specs.Local as ends
 use Rattle.ilpstream_main.specs.Local.{EndsLocal}
 use Rattle.ilpstream_main.specs.Explain.{Explains}
-use Rattle.ilpstream_main.specs.Transfers.{EndsReceive, EndsSend}
+use Rattle.ilpstream_net.specs.Transfers.{EndsReceive, EndsSend}
 use Rattle.ilpstream_main.specs.Words.{MayRefuse, MayShow}
+use Rattle.ilpstream_net.specs.Table.{EndsConnector}
 
 -- no memory for the arguments: nothing was written but the fault
 abbrev pub LacksMemory : {W E : Type 0} → W → W → (E → Option (List ℕ)) → Counting E → Counting E → ℕ → Type 0
@@ -61,12 +60,6 @@ abbrev pub EndsLocalOver : {R W : Type 0} → LocalSettings → (R → Option (L
     → Counting W → Counting W → Result (Unit {0}) LocalError → Type 0
 EndsLocalOver asked remaining contents r s w v end =
     EndsLocal asked (remaining (device_of r)) (contents (device_of w)) (contents (device_of v)) ((s ≡ r) × (v ≡ w)) (v ≡ w) end
-
--- a connector with these settings ended so, r the reader at the start and s now
-abbrev pub EndsConnector : {R : Type 0} → ConnectorSettings → (R → Option (List ℕ)) → Counting R → Counting R
-    → Result (Unit {0}) RunError → Type 0
-EndsConnector x remaining r s end =
-    EndsByTable x.table x.own.now x.ledger (remaining (device_of r)) (tally_of r) (tally_of s) (s ≡ r) end
 
 -- what was asked for was done: r, w and e are the reader, the writer and the writer for errors at the start, s, v and f now
 abbrev pub Does : {R W E : Type 0} → Request → (R → Option (List ℕ)) → (W → Option (List ℕ)) → (E → Option (List ℕ)) → (Option Fault → Type 0)

@@ -22,8 +22,8 @@ use Rattle.ilpstream_ledger.specs.Names.{amounts_of}
 use Rattle.ilpstream_ledger.specs.Placing.{IsLate}
 use Rattle.ilpstream_ledger.specs.Settling.{IsOnce, IsSettled}
 use Rattle.ilpstream_ledger.specs.Texts.{account_text, ledger_text, repeated_text}
-use Rattle.ilpstream_main.specs.declared.error.RunError.{RunError}
-use Rattle.ilpstream_main.specs.declared.error.RunError.TheVariants as run
+use Rattle.ilpstream_net.specs.declared.error.RunError.{RunError}
+use Rattle.ilpstream_net.specs.declared.error.RunError.TheVariants as run
 
 -- whether the books take an amount off or add it
 abbrev pub kind_of : Asked → Kind

@@ -8,8 +8,8 @@ use Rattle.ilpstream_local.specs.Endings.{ComesBefore, Explains, GoesOver, Write
 use Rattle.ilpstream_local.specs.Sends.{is_past}
 use Rattle.ilpstream_settings.specs.declared.settings.LocalSettings.{LocalSettings}
 use Rattle.ilpstream_local.specs.Errors as local
-use Rattle.ilpstream_main.specs.Errors as errors
-use Rattle.ilpstream_main.specs.declared.error.RunError.TheVariants as run
+use Rattle.ilpstream_net.specs.Errors as errors
+use Rattle.ilpstream_net.specs.declared.error.RunError.TheVariants as run
 use Rattle.ilpstream_main.specs.declared.error.LocalError.{LocalError}
 use Rattle.ilpstream_main.specs.declared.error.LocalError.TheVariants as ended
 

@@ -2,7 +2,7 @@
 
 ghost use Rattle.std.specs.Prelude.{List};
 ghost use Rattle.clap.specs.Words.{Text};
-ghost use Rattle.ilpstream_main.specs.Table.{ABadTableIsToldExactly};
+ghost use Rattle.ilpstream_net.specs.Table.{ABadTableIsToldExactly};
 ghost use Rattle.ilpstream_main.specs.Words.{AsksFrames, NamesFrames, after_name};
 
 use ilpstream_settings::{a_bad_text_says_no_table, lines_say_one_table};

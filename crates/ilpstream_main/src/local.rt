@@ -10,12 +10,11 @@ ghost use Rattle.ilpstream_main.specs.Local as spec;
 ghost use Rattle.ilpstream_main.specs.Settings.{IsChain};
 ghost use Rattle.ilpstream_main.specs.declared.error.LocalError.{LocalError};
 
-use crate::error::{LocalError, RunError};
-use crate::obstacle::Obstacle;
+use crate::error::LocalError;
 use crate::tell::{tell_end, tell_number, tell_terminal};
-use crate::totals::{Telling, place_for, tell_text};
 use ilpstream_frames::Fault;
 use ilpstream_local::{LocalSends, TURNS, play_local, run_local};
+use ilpstream_net::{Obstacle, RunError, Telling, place_for, tell_text};
 use ilpstream_settings::{LocalRequest, LocalSettings};
 use st_devices::{CountRead, CountWrite};
 use std::alloc::{AllocError, Global};

@@ -9,18 +9,16 @@ ghost use Rattle.ilpstream_main.specs.Endings.{Does, DoesUnless, LacksMemory, Te
 ghost use Rattle.ilpstream_main.specs.Streams as closed;
 ghost use Rattle.ilpstream_main.specs.Process.{Obeys};
 
-use crate::connector::connector;
 use crate::explain::explain;
 use crate::ledger::ledger;
 use crate::local::local;
-use crate::receive::receive;
-use crate::send::send;
 use crate::streams::{Streams, missing};
 use crate::tell::{tell_end, tell_number, tell_terminal};
 use clap::Error;
 use clap::error::ErrorKind;
 use ilpstream_frames::{Fault, TURNS, put, run_frames, say, tell_fault};
 use ilpstream_ledger::OpensBooks;
+use ilpstream_net::{run_connector, run_receive, run_send};
 use ilpstream_words::{Request, WordsError, broken_rule, read_words};
 use st_devices::{CountRead, CountWrite, Tally};
 use std::alloc::Global;
@@ -115,17 +113,17 @@ fn done<
         Request::Local(request) => local(rt, alloc, request, reader, writer, errors),
         Request::Send(settings) => {
             let mut obstacle = None;
-            let ended = send(rt, alloc, settings, reader, &mut obstacle);
+            let ended = run_send(rt, alloc, settings, reader, &mut obstacle);
             tell_end(alloc, errors, &obstacle, ended)
         }
         Request::Receive(settings) => {
             let mut obstacle = None;
-            let ended = receive(rt, alloc, settings, writer, &mut obstacle);
+            let ended = run_receive(rt, alloc, settings, writer, &mut obstacle);
             tell_end(alloc, errors, &obstacle, ended)
         }
         Request::Connector(settings) => {
             let mut obstacle = None;
-            let ended = connector(rt, opener, alloc, settings, reader, &mut obstacle);
+            let ended = run_connector(rt, opener, alloc, settings, reader, &mut obstacle);
             tell_end(alloc, errors, &obstacle, ended)
         }
         Request::Ledger(settings) => {

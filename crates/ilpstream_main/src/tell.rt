@@ -4,10 +4,8 @@ ghost use Rattle.std.specs.Prelude.{◌≡◌, ◌≤◌, IfOk, string_bytes};
 ghost use Rattle.ilpstream_frames.specs.Texts.{fault_text};
 ghost use Rattle.ilpstream_main.specs.Endings.{TellsEnd, TellsNumber};
 
-use crate::error::RunError;
-use crate::obstacle::{Obstacle, words_of};
-use crate::progress::{has_terminal, put_terminal};
 use ilpstream_frames::{Fault, say, tell_fault};
+use ilpstream_net::{Obstacle, RunError, has_terminal, put_terminal, words_of};
 use st_devices::CountWrite;
 use std::alloc::{AllocError, Global};
 use std::io::Write;

@@ -1,6 +1,0 @@
-use Rattle.std.proofs.Common.{◌≡◌, map, take}
-use Rattle.ilpstream_main.specs.Ways.{these, way_to}
-use Rattle.ilpstream_main.proofs.hop.neighbours_of.Given as goal
-
-abbrev pub invariant-loop-number : goal.invariant-loop-number
-invariant-loop-number l = map way_to l.neighbours.items ≡ these (take l.number l.accounts)

@@ -1,6 +1,0 @@
-use Rattle.std.proofs.Common.{Ok}
-use Rattle.ilpstream_main.proofs.Telling.{untold}
-use Rattle.ilpstream_main.proofs.totals.tell_accounts.Goals as goal
-
-pub returns-in-None-clause-told : goal.returns-in-None-clause-told
-returns-in-None-clause-told g c = (Ok tt, untold c.args.ended)

@@ -1,0 +1,5 @@
+pub mod Pieces
+pub mod Totalled
+pub mod Tables
+pub mod Restoring
+pub mod Transfers

@@ -1,0 +1,6 @@
+use Rattle.std.proofs.Common.{Ok}
+use Rattle.ilpstream_net.proofs.Totalled.{untold}
+use Rattle.ilpstream_net.proofs.log.tell_run.Goals as goal
+
+pub returns-in-None-clause-told : goal.returns-in-None-clause-told
+returns-in-None-clause-told g c = (Ok tt, untold c.args.ended)
