@@ -77,7 +77,9 @@ acked_stays s t (Whole (CloseFrame (StreamClose k code message))) h = with_same 
 acked_stays s t (Whole (BlockedFrame (StreamDataBlocked k n))) h = with_same s k _ t h
 acked_stays s t (Whole (BlockedFrame (StreamMoneyBlocked k n m))) h = with_same s k _ t h
 acked_stays s t (Whole (BlockedFrame (ConnectionDataBlocked n))) h = h
-acked_stays s t (Whole (LimitFrame l)) h = h
+acked_stays s t (Whole (LimitFrame (ConnectionMaxData n))) h = h
+acked_stays s t (Whole (LimitFrame (StreamMaxData j n))) h = h
+acked_stays s t (Whole (LimitFrame (StreamMaxMoney j n u))) h = h
 acked_stays s t (Whole (CloseFrame (ConnectionClose code message))) h = h
 acked_stays s t (Whole (OtherFrame o)) h = h
 

@@ -9,7 +9,7 @@ use Rattle.st_receiver.specs.Reasons.{f99}
 use Rattle.st_ilp.specs.Reading.{prepare_at}
 use Rattle.st_ilp.specs.Errors as ilp
 use Rattle.st_ilp.specs.declared.error.IlpError.{IlpError}
-use Rattle.st_frames.specs.Frames.{Known, Packet, frames_of, CloseFrame, OtherFrame, ConnectionNewAddress, LimitFrame, BlockedFrame, StreamMoney, StreamData}
+use Rattle.st_frames.specs.Frames.{Known, Packet, frames_of, CloseFrame, OtherFrame, ConnectionNewAddress, LimitFrame, BlockedFrame, StreamMoney, StreamData, ConnectionMaxData, StreamMaxData, StreamMaxMoney}
 use Rattle.st_keys.specs.Keys.{DerivedKeys}
 use Rattle.st_keys.specs.Sealed.{unsealed, opened, packet_in}
 use Rattle.st_keys.specs.declared.error.KeyError.{KeyError}
@@ -50,7 +50,9 @@ marked_stays s (StreamData k o xs) = itself s
 marked_stays s (StreamMoney k n) = itself s
 marked_stays s (CloseFrame c) = itself s
 marked_stays s (BlockedFrame b) = itself s
-marked_stays s (LimitFrame l) = itself s
+marked_stays s (LimitFrame (ConnectionMaxData n)) = itself s
+marked_stays s (LimitFrame (StreamMaxData j n)) = itself s
+marked_stays s (LimitFrame (StreamMaxMoney j n u)) = itself s
 marked_stays s (OtherFrame o) = itself s
 
 marked_if_stays : (s : Sending) (b : Bool) (g : Known) → Stays s (marked_if s b g)

@@ -1,7 +1,7 @@
 -- What opening streams and marking limits leave as it was, at the sending side of an end.
 use Rattle.std.proofs.Common.{◌≡◌, ℕ, Bool, true, false, not, ◌&&◌, cond, List, [], ◌∷◌, refl, Option, None, Some, is_some}
 use Rattle.std.specs.List.{fold, range_with_len}
-use Rattle.st_frames.specs.Frames.{Known, CloseFrame, OtherFrame, LimitFrame, BlockedFrame, StreamMoney, StreamData}
+use Rattle.st_frames.specs.Frames.{Known, CloseFrame, OtherFrame, LimitFrame, BlockedFrame, StreamMoney, StreamData, ConnectionMaxData, StreamMaxData, StreamMaxMoney}
 use Rattle.st_sender.specs.Sending.{Sending, Outgoing, Marks, new_outgoing, outgoing_at, with_outgoing}
 use Rattle.st_sender.specs.Answering.{after_marked}
 use Rattle.st_receiver.specs.Streams.{Receiving, is_open}
@@ -24,7 +24,9 @@ module _ (P : Sending → Type 0) where
   opened_keeps r step s h = fold_keeps P (opened_at r) (λ t k. open_if r step t k (is_open r k) (outgoing_at t k) refl refl) (range_with_len 1 64) s h
 
   mark_keeps : ((s : Sending) (m : Marks) → P s → P (record s { marks = m })) → (s : Sending) (f : Known) → P s → P (after_marked s f)
-  mark_keeps step s (LimitFrame l) h = step s _ h
+  mark_keeps step s (LimitFrame (ConnectionMaxData n)) h = step s _ h
+  mark_keeps step s (LimitFrame (StreamMaxData j n)) h = step s _ h
+  mark_keeps step s (LimitFrame (StreamMaxMoney j n u)) h = step s _ h
   mark_keeps step s (BlockedFrame b) h = h
   mark_keeps step s (StreamData k o xs) h = h
   mark_keeps step s (StreamMoney k n) h = h

@@ -73,7 +73,9 @@ module _ (Q : ℕ → Type 0) where
   whole_acked s (BlockedFrame (StreamMoneyBlocked k n t)) h = sent_changed s k _ h
   whole_acked s (StreamData k o xs) h = h
   whole_acked s (BlockedFrame (ConnectionDataBlocked n)) h = h
-  whole_acked s (LimitFrame l) h = h
+  whole_acked s (LimitFrame (ConnectionMaxData n)) h = h
+  whole_acked s (LimitFrame (StreamMaxData j n)) h = h
+  whole_acked s (LimitFrame (StreamMaxMoney j n u)) h = h
   whole_acked s (CloseFrame (ConnectionClose code message)) h = h
   whole_acked s (OtherFrame o) h = h
 

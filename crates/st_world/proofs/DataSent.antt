@@ -53,7 +53,9 @@ whole_acked w s (CloseFrame (StreamClose k code message)) fine = send-changed w 
 whole_acked w s (BlockedFrame (StreamDataBlocked k n)) fine = send-changed w s k _ (λ x h. h) fine
 whole_acked w s (BlockedFrame (StreamMoneyBlocked k n t)) fine = send-changed w s k _ (λ x h. h) fine
 whole_acked w s (BlockedFrame (ConnectionDataBlocked n)) fine = fine
-whole_acked w s (LimitFrame l) fine = fine
+whole_acked w s (LimitFrame (ConnectionMaxData n)) fine = fine
+whole_acked w s (LimitFrame (StreamMaxData j n)) fine = fine
+whole_acked w s (LimitFrame (StreamMaxMoney j n u)) fine = fine
 whole_acked w s (CloseFrame (ConnectionClose code message)) fine = fine
 whole_acked w s (OtherFrame o) fine = fine
 

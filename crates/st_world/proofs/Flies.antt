@@ -50,7 +50,9 @@ whole_flies r s (CloseFrame (StreamClose k code message)) h = changed_flies r s 
 whole_flies r s (BlockedFrame (StreamDataBlocked k n)) h = changed_flies r s k _ (outgoing_at s k) h
 whole_flies r s (BlockedFrame (StreamMoneyBlocked k n t)) h = changed_flies r s k _ (outgoing_at s k) h
 whole_flies r s (BlockedFrame (ConnectionDataBlocked n)) h = record { flights = h.flights; last = h.last; paid = h.paid }
-whole_flies r s (LimitFrame l) h = record { flights = h.flights; last = h.last; paid = h.paid }
+whole_flies r s (LimitFrame (ConnectionMaxData n)) h = record { flights = h.flights; last = h.last; paid = h.paid }
+whole_flies r s (LimitFrame (StreamMaxData j n)) h = record { flights = h.flights; last = h.last; paid = h.paid }
+whole_flies r s (LimitFrame (StreamMaxMoney j n u)) h = record { flights = h.flights; last = h.last; paid = h.paid }
 whole_flies r s (CloseFrame (ConnectionClose code message)) h = h
 whole_flies r s (OtherFrame o) h = h
 

@@ -104,7 +104,9 @@ whole_acked l r s (CloseFrame (StreamClose k code message)) h = out_changed l r 
 whole_acked l r s (BlockedFrame (StreamDataBlocked k n)) h = out_changed l r s k _ (λ x z. record { codes = z.codes; aborted = z.aborted; shut = z.shut; clean = z.clean; acked = z.acked }) h
 whole_acked l r s (BlockedFrame (StreamMoneyBlocked k n u)) h = out_changed l r s k _ (λ x z. record { codes = z.codes; aborted = z.aborted; shut = z.shut; clean = z.clean; acked = z.acked }) h
 whole_acked l r s (BlockedFrame (ConnectionDataBlocked n)) h = h
-whole_acked l r s (LimitFrame limit) h = h
+whole_acked l r s (LimitFrame (ConnectionMaxData n)) h = h
+whole_acked l r s (LimitFrame (StreamMaxData j n)) h = h
+whole_acked l r s (LimitFrame (StreamMaxMoney j n u)) h = h
 whole_acked l r s (CloseFrame (ConnectionClose code message)) h = h
 whole_acked l r s (OtherFrame o) h = h
 

@@ -2,7 +2,7 @@
 use Rattle.std.proofs.Common.{◌≡◌, ◌≢◌, ℕ, ◌+◌, Bool, true, false, cond, List, [], ◌∷◌, length, max, refl, sym, ◌∙◌, arith, Option, None, Some, inl, inr, nat_eq, map}
 use Rattle.std.proofs.lemmas.Bool.{cases_eq}
 use Rattle.std.proofs.lemmas.Bool.Decides.{nat_tests}
-use Rattle.st_frames.specs.Frames.{CloseFrame, ConnectionClose, BlockedFrame, ConnectionDataBlocked, LimitFrame, OtherFrame, Known, StreamClose, StreamData, StreamDataBlocked, StreamMoney, StreamMoneyBlocked}
+use Rattle.st_frames.specs.Frames.{CloseFrame, ConnectionClose, BlockedFrame, ConnectionDataBlocked, LimitFrame, OtherFrame, Known, StreamClose, StreamData, StreamDataBlocked, StreamMoney, StreamMoneyBlocked, ConnectionMaxData, StreamMaxData, StreamMaxMoney}
 use Rattle.st_sender.specs.Sending.{Outgoing, Sending, changed, changed_at, outgoing_at}
 use Rattle.st_sender.specs.Flights.{end_of, flown, highest_end}
 use Rattle.st_sender.specs.Answering.{acked_blocked, acked_close, acked_data, acked_money, acked_money_blocked, after_acked, after_all_acked}
@@ -45,7 +45,9 @@ acked_at s k (CloseFrame (StreamClose j code message)) x e = own_change s j k (a
 acked_at s k (BlockedFrame (StreamDataBlocked j n)) x e = own_change s j k (acked_blocked n) x e
 acked_at s k (BlockedFrame (StreamMoneyBlocked j n t)) x e = own_change s j k (acked_money_blocked n) x e
 acked_at s k (BlockedFrame (ConnectionDataBlocked n)) x e = e
-acked_at s k (LimitFrame l) x e = e
+acked_at s k (LimitFrame (ConnectionMaxData n)) x e = e
+acked_at s k (LimitFrame (StreamMaxData j n)) x e = e
+acked_at s k (LimitFrame (StreamMaxMoney j n u)) x e = e
 acked_at s k (CloseFrame (ConnectionClose code message)) x e = e
 acked_at s k (OtherFrame o) x e = e
 
@@ -145,7 +147,9 @@ none_acked s k (CloseFrame (StreamClose j code message)) e = none_changed s j k 
 none_acked s k (BlockedFrame (StreamDataBlocked j n)) e = none_changed s j k (acked_blocked n) e
 none_acked s k (BlockedFrame (StreamMoneyBlocked j n t)) e = none_changed s j k (acked_money_blocked n) e
 none_acked s k (BlockedFrame (ConnectionDataBlocked n)) e = e
-none_acked s k (LimitFrame l) e = e
+none_acked s k (LimitFrame (ConnectionMaxData n)) e = e
+none_acked s k (LimitFrame (StreamMaxData j n)) e = e
+none_acked s k (LimitFrame (StreamMaxMoney j n u)) e = e
 none_acked s k (CloseFrame (ConnectionClose code message)) e = e
 none_acked s k (OtherFrame o) e = e
 

@@ -215,7 +215,9 @@ limit_acked s (CloseFrame (StreamClose j code message)) = limit_at s j _ (outgoi
 limit_acked s (BlockedFrame (StreamDataBlocked j n)) = limit_at s j _ (outgoing_at s j)
 limit_acked s (BlockedFrame (StreamMoneyBlocked j n t)) = limit_at s j _ (outgoing_at s j)
 limit_acked s (BlockedFrame (ConnectionDataBlocked n)) = refl
-limit_acked s (LimitFrame l) = refl
+limit_acked s (LimitFrame (ConnectionMaxData n)) = refl
+limit_acked s (LimitFrame (StreamMaxData j n)) = refl
+limit_acked s (LimitFrame (StreamMaxMoney j n u)) = refl
 limit_acked s (CloseFrame (ConnectionClose code message)) = refl
 limit_acked s (OtherFrame o) = refl
 
