@@ -145,7 +145,7 @@ pub unseen_there : (host out : Bor (List ℕ)) → ((n : Option Neighbour) → �
 unseen_there host out none port = by (is_field_text out.now) refl
   where
     by : (b : Bool) → is_field_text out.now ≡ b → is_field_text out.now ≡ false
-    by true e = absurd (none (Some (record { host = host; token = out })) (refl, port, refl, e))
+    by true e = absurd (none (Some (record { host = host; token = out; host_is = port.visible; token_is = e })) (refl, port, refl, e))
     by false e = e
 
 module _ (limit max_packet token host out : Text) where
