@@ -73,7 +73,7 @@ SendsKept iv now old new sent = MatchOption sent (GoesNone old.state × IsSameEn
     (λ number. (f : Open) × ((f.sequence ≡ number)
     × (Goes old.state iv now f new.output.items new.state × (new.flights.items ≡ old.flights.items ++ f ∷ []))))
 
--- the flight of this number ends by an answer, and whether it pays is told; or there is none
+-- the flight of this number ends by an answer, and whether it pays is said; or there is none
 abbrev pub TakesAnswer : (number : ℕ) (bytes : List ℕ) (old new : HostEnd) → Option Bool → Type 0
 TakesAnswer number bytes old new taken = MatchOption taken (FindsNoFlight number old new)
     (λ pays_out. (f : Open) × (IsSpent old new number (Some bytes) f × (pays_out ≡ pays f (Some bytes))))

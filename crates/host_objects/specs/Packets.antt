@@ -86,7 +86,7 @@ IsPushed old new k = (is_unwritable k ≡ false) × IsKept old new (length old.f
 abbrev pub RefusesToPush : (old new : HostPacket) → Known → FrameError → Type 0
 RefusesToPush old new k e = IsSamePacket old new × (((e ≡ FrameFormat (length old.frames.items)) × (is_unwritable k ≡ true)) ⊎ (e ≡ NoMemory))
 
--- the packet that the bytes are, or why they are none; but memory may be refused
+-- the packet that the bytes are, or why they are not a packet; but memory may be refused
 abbrev pub ReadsPacket : (kind : ℕ) (bytes : List ℕ) → Result HostPacket FrameError → Type 0
 ReadsPacket kind bytes result = MatchResult result (λ p. IsReadPacket kind bytes p) (λ e. (e ≡ NoMemory) ⊎ (packet_at kind bytes ≡ Err e))
 
