@@ -21,6 +21,8 @@ TABLE = b"account 500 500 alice - -\naccount 500 500 bob 127.0.0.1:9 hub\nroute 
 # A hop that needs more memory than a step.
 ROUTES = TABLE + b"".join(b"route example.bob.%d 1\n" % n for n in range(4_000))
 STEP = 64 * 1024
+# The stack of a thread. In less space a receiver waits 20 seconds for a thread and ends with 80.
+STACK = 8 * 1024 * 1024
 # This number of runs that end well ends a sweep, and this number of steps is too large.
 WELL, STEPS = 8, 1_000
 # More seconds than any run may take, and the seconds in which a connector is asked until it ends.
@@ -177,7 +179,7 @@ def too_little_memory_for(play, command):
         "receive": transfer(paths["bytes"], "receive"),
         "send": transfer(paths["bytes"], "send"),
     }
-    told = sweep(runs[command], least())
+    told = sweep(runs[command], max(least(), STACK) if command == "receive" else least())
     want("WRONG" not in told and told.startswith(WANTED.get(command, "")), told)
     want(command != "receive" or WAITS in told, told)
     return told
