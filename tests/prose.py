@@ -89,11 +89,6 @@ OF_CODE = [
     (r"moments?", "time"),
 ]
 FOR_USERS = {"SECURITY.md", *(f"docs/{it}.md" for it in ("COMMANDS", "LIMITS", "LOG", "OPERATING", "SCALING"))}
-# Words of comments that are found and wait until their crates change: a new comment would prove all crates above again.
-LATER = {
-    ("crates/st_hop/specs/Books.antt", "goes on"), ("crates/st_reassembly/specs/Ring.antt", "piece"),
-    ("crates/st_sender/proofs/Paying.antt", "where"),
-}
 # A sentence with each word that has to be found, and one with the same word in a sense that may stay.
 FOUND = [
     "Bob got the bytes.", "The bytes came whole.", "The peer told a limit.", "A packet is refused only where memory ran out.",
@@ -256,8 +251,6 @@ def idioms_of_comments(path, text):
         said = prose(" ".join(comment.split()))
         for idiom, better in [*IDIOM, *WORD]:
             for hit in idiom.finditer(said):
-                if (path, hit.group(0)) in LATER:
-                    continue
                 yield number, f"'{hit.group(0)}': {better}"
 
 

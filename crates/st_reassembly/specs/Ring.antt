@@ -34,11 +34,11 @@ module _ {A : Type 0} where
   abbrev pub cells : Ring A → ℕ → Option ℕ
   cells ring = cell ring.bytes.items ring.marks.items
 
--- the bytes from `at` on are those of the piece
+-- the bytes from `at` on are the new ones
 abbrev pub Overwrites : ℕ → List ℕ → (old new : List ℕ) → Type 0
 Overwrites at piece old new = (k : ℕ) → slice_index new k ≡ (if is_between at (at + length piece) k then slice_index piece (k - at) else slice_index old k)
 
--- each empty place has its byte of the piece, whose first byte lies at place `at`
+-- each empty place has its new byte, the first of which lies at place `at`
 abbrev pub FillsPlaces : ℕ → List ℕ → (old new : ℕ → Option ℕ) → Type 0
 FillsPlaces at piece old new = (k : ℕ) → k < 65536 → new k ≡ option_or (old k) (byte_at at piece k)
 

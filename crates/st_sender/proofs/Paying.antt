@@ -101,7 +101,7 @@ pays_pushed lanes r ps limit room n left most ms all pushed p e m some fits =
 pub pays_first : (lanes : Slots SendStream) (r : Ratio) (ps : List Flight) (limit room : ℕ) (ms : List Payment) → ms ≡ [] → Pays lanes r ps limit room 0 ms × (limit + total ms ≡ limit)
 pays_first lanes r ps limit room ms none = subst (λ (xs : List Payment). Pays lanes r ps limit room 0 xs × (limit + total xs ≡ limit)) (sym none) (pays_none lanes r ps limit room, omega arith)
 
--- where nothing is paid although a payment has room, nothing may be paid: at the first stream, at the next one that is paid nothing, at one that is paid
+-- if nothing is paid although a payment has room, nothing may be paid: at the first stream, at the next one that is paid nothing, at one that is paid
 pub nothing_first : (lanes : Slots SendStream) (r : Ratio) (ps : List Flight) (limit : ℕ) → min limit (all_payable lanes r ps 0) ≡ 0
 nothing_first lanes r ps limit = omega arith
 
