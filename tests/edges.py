@@ -704,6 +704,32 @@ def reset(stream):
     stream.close()
 
 
+def cut_again(port, how, is_over):
+    """Opens a connection and cuts it off, again and again without a pause."""
+    while not is_over.is_set():
+        try:
+            stream = socket.create_connection((HOST, port), timeout=10)
+            stream.sendall(b"POST /ilp HTTP/1.1\r\n" if how == "in a request" else b"")
+            reset(stream) if how == "reset" else stream.close()
+        except OSError:
+            pass
+
+
+@test(("closed",), ("reset",), ("in a request",))
+def a_receiver_whose_connections_are_cut_without_a_pause(play, how):
+    content, is_over = some_bytes(200_000), threading.Event()
+    receiver = play.receive()
+    cutting = [threading.Thread(target=cut_again, args=(receiver.port, how, is_over), daemon=True) for _ in range(8)]
+    for it in cutting:
+        it.start()
+    try:
+        return arrives(play.send(receiver.port, content), receiver, content, 20)
+    finally:
+        is_over.set()
+        for it in cutting:
+            it.join()
+
+
 @test((1, "closed"), (20, "reset"), (-40, "closed"), (-1, "reset"), (0, "reset"))
 def a_connection_to_a_connector_is_cut_behind_bytes(play, count, how):
     sent, cut = threading.Event(), threading.Event()
