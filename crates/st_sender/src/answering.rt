@@ -2,7 +2,7 @@
 
 ghost use Rattle.std.specs.Prelude.{◌≡◌, ◌≢◌, ℕ, List, MatchOption};
 ghost use Rattle.st_frames.specs.Frames.{Known};
-ghost use Rattle.st_sender.specs.Answering.{after_fulfilled, after_failed, taken_back, failure_of, TooLarge};
+ghost use Rattle.st_sender.specs.Answering.{after_fulfilled, after_failed, failure_of, TooLarge, TakesBack};
 ghost use Rattle.st_sender.specs.Flights.{flight_at};
 ghost use Rattle.st_sender.specs.Loads.{Sends};
 ghost use Rattle.st_sender.specs.Sending.{Sending};
@@ -69,7 +69,7 @@ impl<A: Allocator + Copy> Outbox<A> {
     pub fn take_back(&mut self, load: Load<A>)
         ensures stale { load.sequence ≢ self.old.last → self.new ≡ self.old }
         ensures undoes { (before : Sending) (limits : List Known) (room : ℕ) → Sends before limits room load self.old → self.new ≡ before }
-        ensures exact { load.sequence ≡ self.old.last → MatchOption (flight_at self.old.flights load.sequence) (self.new ≡ self.old) (λ p. self.new ≡ taken_back self.old load.turn p) }
+        ensures exact { load.sequence ≡ self.old.last → TakesBack self.old load.sequence load.turn self.new }
     {
         let sequence = load.sequence();
         let turn = load.turn();

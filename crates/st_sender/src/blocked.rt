@@ -1,11 +1,9 @@
 //! The Blocked frames: a limit of the peer stops this end (RFC 0029, section 5.3).
 
-ghost use Rattle.std.specs.Prelude.{◌≡◌, true, false, ◌<◌, ◌^◌, length, MatchOption, ℕ};
-ghost use Rattle.st_frames.specs.Frames.{BlockedFrame, ConnectionDataBlocked, Known};
+ghost use Rattle.std.specs.Prelude.{◌≡◌, true, false, ◌<◌, ◌^◌, length, MatchOption};
 ghost use Rattle.st_sender.specs.Due as due;
 ghost use Rattle.st_sender.specs.Shown.{telling};
-ghost use Rattle.st_sender.specs.declared.notice.Notice.TheVariants as said;
-ghost use Rattle.st_sender.specs.Noticed.{IsBlockedAt, NoneBlocked, IsHeldAt, NoneHeld, IsConnectionBlocked, IsHeld, NotHeld, IsDataBlocked, IsMoneyBlocked, IsBlocked};
+ghost use Rattle.st_sender.specs.Noticed.{IsBlockedAt, NoneBlocked, IsHeldAt, NoneHeld, IsHeld, NotHeld, IsDataNotice, IsMoneyNotice, IsStreamNotice, IsConnectionNotice};
 
 use crate::bounds::Bounds;
 use crate::in_flight::{InFlight, ends_of};
@@ -41,7 +39,7 @@ impl<A: Allocator + Copy> Stream<A> {
 
     /// The Blocked at its limit on offsets that is sent: a byte beyond it is due, and none was fulfilled for this limit.
     fn data_blocked(&self, number: u8, bounds: Bounds) -> Option<Notice>
-        ensures { MatchOption result ((limit : ℕ) → ¬ IsDataBlocked bounds number self.now limit) (λ n. (limit : ℕ) × (n ≡ said.StreamDataBlocked number limit) × IsDataBlocked bounds number self.now limit) }
+        ensures { IsDataNotice bounds number self.now result }
     {
         let notice = Notice::StreamDataBlocked {
             stream: u64::from(number),
@@ -65,9 +63,7 @@ impl<A: Allocator + Copy> Stream<A> {
         least: Rate,
         bounds: Bounds,
     ) -> Option<Notice>
-        ensures { MatchOption result
-            ((limit total : ℕ) → ¬ IsMoneyBlocked least flights.now bounds number self.now limit total)
-            (λ n. (limit total : ℕ) × (n ≡ said.StreamMoneyBlocked number limit total) × IsMoneyBlocked least flights.now bounds number self.now limit total) }
+        ensures { IsMoneyNotice least flights.now bounds number self.now result }
     {
         let Some((receive_max, received)) = self.advertised_money else {
             return None;
@@ -96,7 +92,7 @@ impl<A: Allocator + Copy> Stream<A> {
         least: Rate,
         bounds: Bounds,
     ) -> Option<Notice>
-        ensures { MatchOption result ((f : Known) → ¬ IsBlocked flights.now least bounds number self.now f) (λ n. IsBlocked flights.now least bounds number self.now (telling n)) }
+        ensures { IsStreamNotice flights.now least bounds number self.now result }
     {
         match self.data_blocked(number, bounds) {
             Some(notice) => Some(notice),
@@ -159,7 +155,7 @@ pub fn connection_blocked<A: Allocator + Copy>(
 ) -> Option<Notice>
     requires small { bounds.spare < 2 ^ 64 }
     requires streams { length streams.now ≡ 65 }
-    ensures { MatchOption result (¬ IsConnectionBlocked streams.now flights.now told highest bounds) (λ n. (telling n ≡ BlockedFrame (ConnectionDataBlocked told)) × IsConnectionBlocked streams.now flights.now told highest bounds) }
+    ensures { IsConnectionNotice streams.now flights.now told highest bounds result }
 {
     let notice = Notice::ConnectionDataBlocked { max_offset: told };
     if was_blocked(highest, told) {
