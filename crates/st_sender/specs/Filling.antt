@@ -4,6 +4,7 @@ use Rattle.std.specs.Prelude.{◌≡◌, ℕ, ◌+◌, ◌-◌, ◌<◌, ◌≤�
 use Rattle.std.specs.List.{list_any, range_with_len}
 use Rattle.std.specs.declared.option.Option.{Option}
 use Rattle.std.specs.declared.option.Option.TheVariants.{None, Some}
+use Rattle.st_oer.specs.Ratios.{ratio}
 use Rattle.st_frames.specs.Frames.{Known, CloseFrame, StreamClose, StreamMoney, StreamData}
 use Rattle.st_sender.specs.Sending.{Outgoing, Load, Data, Sending, outgoing_at}
 use Rattle.st_sender.specs.Flights.{carries, flight_of, due_at, all_ends, highest_end, flying_money, due_money}
@@ -36,6 +37,10 @@ free_money s k (Some x) = money_room x.advertised_money (flying_money s k) (due_
 
 abbrev pub all_free_money : Sending → ℕ
 all_free_money s = sum (map (λ k. free_money s k (outgoing_at s k)) (range_with_len 0 65))
+
+-- all that is sent should arrive
+abbrev pub WantsAll : Sending → Type 0
+WantsAll s = s.config.least ≡ ratio 1 1
 
 -- a byte, money or a close, and no word of a limit
 abbrev pub is_work : Known → Bool

@@ -9,6 +9,8 @@ use Rattle.st_streams.specs.Slots.{Slots, slot, with_slot}
 use Rattle.st_streams.specs.Table.{put_same}
 use Rattle.st_sender.specs.Sending.{Outgoing, Flight, new_outgoing}
 use Rattle.st_sender.specs.Flights.{carries}
+use Rattle.st_sender.specs.declared.error.OutboxError.{OutboxError}
+use Rattle.st_sender.specs.Refusals.{refusal_at, is_closed, full, too_much, all_accepted, all_offered}
 
 -- a stream, and the sequence by which each offset is in flight
 pub record SendStream : Type 0 where
@@ -43,6 +45,13 @@ out_of (Some l) = Some l.out
 
 abbrev pub outs : Slots SendStream → Slots Outgoing
 outs lanes = map out_of lanes
+
+-- why a write of n bytes is refused, and an offer
+abbrev pub why_not_write : Slots SendStream → (stream n : ℕ) → Option OutboxError
+why_not_write lanes k n = refusal_at (out_of (slot lanes k)) is_closed (full (all_accepted (outs lanes)) n)
+
+abbrev pub why_not_offer : Slots SendStream → (stream amount : ℕ) → Option OutboxError
+why_not_offer lanes k amount = refusal_at (out_of (slot lanes k)) is_closed (too_much (all_offered (outs lanes)) amount)
 
 -- the sequence of the flight that carries a byte
 abbrev pub flying_by : ℕ → List Flight → ℕ → Option ℕ

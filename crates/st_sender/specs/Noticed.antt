@@ -1,6 +1,6 @@
 -- By which numbers a notice goes: a Blocked, which goes alone, or a limit of this end's. And what one that was fulfilled
 -- leaves of the marks.
-use Rattle.std.specs.Prelude.{◌≡◌, ℕ, ◌+◌, ◌-◌, ◌^◌, ◌<◌, ◌≤◌, Bool, true, false, List, [], ◌∷◌, length, max, nat_lt, slice_set}
+use Rattle.std.specs.Prelude.{◌≡◌, ℕ, ◌+◌, ◌-◌, ◌^◌, ◌<◌, ◌≤◌, Bool, true, false, List, [], ◌∷◌, length, max, nat_lt, slice_set, MatchOption}
 use Rattle.std.specs.List.{AllByRecursion}
 use Rattle.std.specs.declared.option.Option.{Option}
 use Rattle.std.specs.declared.option.Option.TheVariants.{None, Some}
@@ -10,11 +10,13 @@ use Rattle.st_frames.specs.Frames.{Known, LimitFrame, ConnectionMaxData, Blocked
 use Rattle.st_frames.specs.Written.{packet_length}
 use Rattle.st_sender.specs.declared.bounds.Bounds.{Bounds}
 use Rattle.st_sender.specs.declared.notice.Notice.{Notice}
+use Rattle.st_sender.specs.declared.notice.Notice.TheVariants as said
 use Rattle.st_sender.specs.Sending.{Data, Whole, SentFrame, Flight, Load, Marks, Sending}
 use Rattle.st_sender.specs.Flights.{any_frame, tells, flying_end, all_ends, room_for}
 use Rattle.st_sender.specs.Answering.{mark_after, marks_after, higher}
 use Rattle.st_sender.specs.Lanes.{SendStream, due_in}
 use Rattle.st_sender.specs.Due.{was_blocked, IsDue}
+use Rattle.st_sender.specs.Loads.{Sends}
 use Rattle.st_sender.specs.Filling.{is_work}
 use Rattle.st_sender.specs.Paying.{open_money}
 use Rattle.st_sender.specs.Shown.{telling}
@@ -46,6 +48,21 @@ abbrev pub IsBlocked : List Flight → Ratio → Bounds → (k : ℕ) → SendSt
 IsBlocked flights r b k l (BlockedFrame (StreamDataBlocked j limit)) = (j ≡ k) × IsDataBlocked b k l limit
 IsBlocked flights r b k l (BlockedFrame (StreamMoneyBlocked j limit total)) = (j ≡ k) × IsMoneyBlocked r flights b k l limit total
 IsBlocked flights r b k l f = ⊥
+
+-- the Blocked of a stream that goes, for bytes, for money, or for either: none only if none may go
+abbrev pub IsDataNotice : Bounds → (k : ℕ) → SendStream → Option Notice → Type 0
+IsDataNotice b k l notice =
+    MatchOption notice ((limit : ℕ) → ¬ IsDataBlocked b k l limit)
+    (λ n. (limit : ℕ) × (n ≡ said.StreamDataBlocked k limit) × IsDataBlocked b k l limit)
+
+abbrev pub IsMoneyNotice : Ratio → List Flight → Bounds → (k : ℕ) → SendStream → Option Notice → Type 0
+IsMoneyNotice r flights b k l notice =
+    MatchOption notice ((limit total : ℕ) → ¬ IsMoneyBlocked r flights b k l limit total)
+    (λ n. (limit total : ℕ) × (n ≡ said.StreamMoneyBlocked k limit total) × IsMoneyBlocked r flights b k l limit total)
+
+abbrev pub IsStreamNotice : List Flight → Ratio → Bounds → (k : ℕ) → SendStream → Option Notice → Type 0
+IsStreamNotice flights r b k l notice =
+    MatchOption notice ((f : Known) → ¬ IsBlocked flights r b k l f) (λ n. IsBlocked flights r b k l (telling n))
 
 pub record IsBlockedAt (lanes : Slots SendStream) (flights : List Flight) (r : Ratio) (b : Bounds) (f : Known) : Type 0 where
   pub stream : ℕ
@@ -80,6 +97,12 @@ pub record IsConnectionBlocked (lanes : Slots SendStream) (flights : List Flight
   pub waits : IsHeldAt lanes flights b.spare
   pub short : IsShort b (BlockedFrame (ConnectionDataBlocked told))
 
+-- the notice of the connection's Blocked: none only if it does not go
+abbrev pub IsConnectionNotice : Slots SendStream → List Flight → (told : ℕ) → (highest : Option ℕ) → Bounds → Option Notice → Type 0
+IsConnectionNotice lanes flights told highest b notice =
+    MatchOption notice (¬ IsConnectionBlocked lanes flights told highest b)
+    (λ n. (telling n ≡ BlockedFrame (ConnectionDataBlocked told)) × IsConnectionBlocked lanes flights told highest b)
+
 -- ---- limits of this end's
 
 abbrev pub is_limit : Known → Bool
@@ -102,6 +125,11 @@ pub record IsAwaited (m : Marks) (flights : List Flight) (b : Bounds) (f : Known
   pub marked : is_marked m f ≡ true
   pub idle : any_frame (tells f) flights ≡ false
   pub short : IsShort b f
+
+-- the notice of a limit: none only if its frame does not go
+abbrev pub IsLimitNotice : Marks → List Flight → Bounds → Known → Option Notice → Type 0
+IsLimitNotice m flights b f notice =
+    MatchOption notice (¬ IsAwaited m flights b f) (λ n. (telling n ≡ f) × IsAwaited m flights b (telling n))
 
 abbrev pub NoneAwaited : Marks → List Flight → Bounds → (limits : List Known) → Type 0
 NoneAwaited m flights b limits = AllByRecursion (λ f. ¬ IsAwaited m flights b f) limits
@@ -160,3 +188,11 @@ IsOfNotice p = (n : Notice) × (p.frames ≡ telling n ∷ []) × (p.amount ≡ 
 -- no Blocked is due that the room takes
 abbrev pub NoneSaid : Sending → (limits : List Known) → Bounds → Type 0
 NoneSaid s limits b = (f : Known) → is_work f ≡ false → is_limit f ≡ false → IsDue s limits f → ¬ IsShort b f
+
+-- a Blocked that is due and that the room takes: none only if there is none
+abbrev pub IsDueNotice : Sending → (limits : List Known) → Bounds → Option Notice → Type 0
+IsDueNotice s limits b notice = MatchOption notice (NoneSaid s limits b) (λ n. IsDue s limits (telling n) × IsShort b (telling n))
+
+-- a packet of one notice is sent: none only if no Blocked is due that the room takes, and then nothing changes
+abbrev pub SendsNotice : Sending → (limits : List Known) → Bounds → Option Load → Sending → Type 0
+SendsNotice s limits b sent t = MatchOption sent (NoneSaid s limits b × (t ≡ s)) (λ p. Sends s limits b.room p t × IsOfNotice p)

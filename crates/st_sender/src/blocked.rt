@@ -1,15 +1,15 @@
 //! The Blocked frames: a limit of the peer stops this end (RFC 0029, section 5.3).
 
 ghost use Rattle.std.specs.Prelude.{◌≡◌, true, false, ◌<◌, ◌^◌, length, MatchOption};
-ghost use Rattle.st_frames.specs.Frames.{BlockedFrame, ConnectionDataBlocked};
 ghost use Rattle.st_sender.specs.Due as due;
 ghost use Rattle.st_sender.specs.Shown.{telling};
-ghost use Rattle.st_sender.specs.Noticed.{IsBlockedAt, NoneBlocked, IsHeldAt, NoneHeld, IsConnectionBlocked};
+ghost use Rattle.st_sender.specs.Noticed.{IsBlockedAt, NoneBlocked, IsHeldAt, NoneHeld, IsHeld, NotHeld, IsDataNotice, IsMoneyNotice, IsStreamNotice, IsConnectionNotice};
 
 use crate::bounds::Bounds;
 use crate::in_flight::{InFlight, ends_of};
 use crate::load::Flight;
 use crate::notice::Notice;
+use crate::payments::room_for;
 use crate::sizes::notice_size;
 use crate::stream::Stream;
 use st_oer::Rate;
@@ -23,6 +23,81 @@ pub fn was_blocked(highest: Option<u64>, limit: u64) -> bool
     match highest {
         None => false,
         Some(highest) => limit <= highest,
+    }
+}
+
+impl<A: Allocator + Copy> Stream<A> {
+    /// Whether a queued byte lies beyond the connection's limit. `spare` is by how many bytes the sum of the streams'
+    /// ends may still rise.
+    pub fn is_held(&self, flights: &InFlight<'_, A>, number: u8, spare: u128) -> bool
+        requires { spare < 2 ^ 64 }
+        ensures yes { result ≡ true → IsHeld flights.now spare number self.now }
+        ensures no { result ≡ false → NotHeld flights.now spare number self.now }
+    {
+        u128::from(self.bytes.past_due()) > self.sent_end(flights, number) + spare
+    }
+
+    /// The Blocked at its limit on offsets that is sent: a byte beyond it is due, and none was fulfilled for this limit.
+    fn data_blocked(&self, number: u8, bounds: Bounds) -> Option<Notice>
+        ensures { IsDataNotice bounds number self.now result }
+    {
+        let notice = Notice::StreamDataBlocked {
+            stream: u64::from(number),
+            max_offset: self.told,
+        };
+        if self.bytes.past_due() <= self.told
+            || was_blocked(self.blocked, self.told)
+            || notice_size(bounds.sequence, notice) > bounds.room
+        {
+            return None;
+        }
+        Some(notice)
+    }
+
+    /// The Blocked at the peer's receive max that goes: more money is due than it has room for, and none was fulfilled
+    /// for it.
+    fn money_blocked(
+        &self,
+        flights: &[Flight<A>],
+        number: u8,
+        least: Rate,
+        bounds: Bounds,
+    ) -> Option<Notice>
+        ensures { IsMoneyNotice least flights.now bounds number self.now result }
+    {
+        let Some((receive_max, received)) = self.advertised_money else {
+            return None;
+        };
+        let notice = Notice::StreamMoneyBlocked {
+            stream: u64::from(number),
+            receive_max,
+            total: self.fulfilled,
+        };
+        let left = receive_max.saturating_sub(received);
+        if room_for(least, self.open_money(flights, number)) <= u128::from(left)
+            || was_blocked(self.blocked_money, receive_max)
+            || notice_size(bounds.sequence, notice) > bounds.room
+        {
+            return None;
+        }
+        Some(notice)
+    }
+
+    /// The Blocked frame of the stream that can be sent: of its offsets first, else of its receive max. `None` if
+    /// there is none.
+    pub fn blocked(
+        &self,
+        flights: &[Flight<A>],
+        number: u8,
+        least: Rate,
+        bounds: Bounds,
+    ) -> Option<Notice>
+        ensures { IsStreamNotice flights.now least bounds number self.now result }
+    {
+        match self.data_blocked(number, bounds) {
+            Some(notice) => Some(notice),
+            None => self.money_blocked(flights, number, least, bounds),
+        }
     }
 }
 
@@ -80,7 +155,7 @@ pub fn connection_blocked<A: Allocator + Copy>(
 ) -> Option<Notice>
     requires small { bounds.spare < 2 ^ 64 }
     requires streams { length streams.now ≡ 65 }
-    ensures { MatchOption result (¬ IsConnectionBlocked streams.now flights.now told highest bounds) (λ n. (telling n ≡ BlockedFrame (ConnectionDataBlocked told)) × IsConnectionBlocked streams.now flights.now told highest bounds) }
+    ensures { IsConnectionNotice streams.now flights.now told highest bounds result }
 {
     let notice = Notice::ConnectionDataBlocked { max_offset: told };
     if was_blocked(highest, told) {

@@ -4,8 +4,8 @@ ghost use Rattle.std.specs.Prelude.{true, false, ◌≡◌, ◌≢◌, ℕ, ◌+
 ghost use Rattle.st_streams.specs.Slots.{slot, with_slot, no_slots};
 ghost use Rattle.st_sender.specs.Accepting.{after_write, after_clean, after_stream_abort, after_offer};
 ghost use Rattle.st_sender.specs.Answering.{told_data, advertised_receive_max, is_settled};
-ghost use Rattle.st_sender.specs.Lanes.{changed_lane, on_out, out_of, outs, new_lane};
-ghost use Rattle.st_sender.specs.Refusals.{refusal_at, is_closed, is_aborted, no_more, full, too_much, Answers, AnswersOrWants, accepted_of, offered_of};
+ghost use Rattle.st_sender.specs.Lanes.{changed_lane, on_out, out_of, outs, new_lane, why_not_write, why_not_offer};
+ghost use Rattle.st_sender.specs.Refusals.{refusal_at, is_closed, is_aborted, no_more, Answers, AnswersOrWants, accepted_of, offered_of};
 ghost use Rattle.st_sender.specs.Refusals as specs;
 ghost use Rattle.st_sender.specs.Room.{TellsRoom};
 ghost use Rattle.st_sender.specs.Waiting.{is_waiting};
@@ -171,7 +171,7 @@ pub fn accept<A: Allocator + Copy>(
 ) -> Result<(), OutboxError>
     ensures accepts { OnOk result (streams.new.items ≡ changed_lane streams.old.items stream (on_out (after_write bytes.now))) }
     ensures unchanged { OnErr result (streams.new.items ≡ streams.old.items) }
-    ensures refuses { AnswersOrWants (refusal_at (out_of (slot streams.old.items stream)) is_closed (full (specs.all_accepted (outs streams.old.items)) (length bytes.now))) result }
+    ensures refuses { AnswersOrWants (why_not_write streams.old.items stream (length bytes.now)) result }
 {
     if stream as usize >= streams.len() {
         return Err(OutboxError::NoStream);
@@ -248,7 +248,7 @@ pub fn offer<A: Allocator + Copy>(
 ) -> Result<(), OutboxError>
     ensures offers { OnOk result (streams.new.items ≡ changed_lane streams.old.items stream (on_out (after_offer amount))) }
     ensures unchanged { OnErr result (streams.new.items ≡ streams.old.items) }
-    ensures refuses { Answers (refusal_at (out_of (slot streams.old.items stream)) is_closed (too_much (specs.all_offered (outs streams.old.items)) amount)) result }
+    ensures refuses { Answers (why_not_offer streams.old.items stream amount) result }
 {
     if stream as usize >= streams.len() {
         return Err(OutboxError::NoStream);
