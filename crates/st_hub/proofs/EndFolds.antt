@@ -2,7 +2,7 @@
 use Rattle.std.proofs.Common.{◌≡◌, ℕ, Bool, true, false, not, ◌&&◌, cond, List, [], ◌∷◌, refl, Option, None, Some, is_some}
 use Rattle.std.specs.List.{fold, range_with_len}
 use Rattle.st_frames.specs.Frames.{Known, CloseFrame, OtherFrame, LimitFrame, BlockedFrame, StreamMoney, StreamData, ConnectionMaxData, StreamMaxData, StreamMaxMoney}
-use Rattle.st_sender.specs.Sending.{Sending, Outgoing, Marks, new_outgoing, outgoing_at, with_outgoing}
+use Rattle.st_sender.specs.Sending.{Sending, Outgoing, PeerBlocked, new_outgoing, outgoing_at, with_outgoing}
 use Rattle.st_sender.specs.Answering.{after_marked}
 use Rattle.st_receiver.specs.Streams.{Receiving, is_open}
 use Rattle.st_end.specs.Receiving.{opened_at, opened_too, tells_blocked, marked_if, marked, all_marked}
@@ -23,7 +23,7 @@ module _ (P : Sending → Type 0) where
   unfolding opened_too
   opened_keeps r step s h = fold_keeps P (opened_at r) (λ t k. open_if r step t k (is_open r k) (outgoing_at t k) refl refl) (range_with_len 1 64) s h
 
-  mark_keeps : ((s : Sending) (m : Marks) → P s → P (record s { marks = m })) → (s : Sending) (f : Known) → P s → P (after_marked s f)
+  mark_keeps : ((s : Sending) (m : PeerBlocked) → P s → P (record s { marks = m })) → (s : Sending) (f : Known) → P s → P (after_marked s f)
   mark_keeps step s (LimitFrame (ConnectionMaxData n)) h = step s _ h
   mark_keeps step s (LimitFrame (StreamMaxData j n)) h = step s _ h
   mark_keeps step s (LimitFrame (StreamMaxMoney j n u)) h = step s _ h
@@ -33,12 +33,12 @@ module _ (P : Sending → Type 0) where
   mark_keeps step s (CloseFrame c) h = h
   mark_keeps step s (OtherFrame o) h = h
 
-  mark_if : ((s : Sending) (m : Marks) → P s → P (record s { marks = m })) → (s : Sending) (b : Bool) (f : Known) → P s → P (marked_if s b f)
+  mark_if : ((s : Sending) (m : PeerBlocked) → P s → P (record s { marks = m })) → (s : Sending) (b : Bool) (f : Known) → P s → P (marked_if s b f)
   mark_if step s true f h = mark_keeps step s f h
   mark_if step s false f h = h
 
   -- what other marks keep, marking keeps
-  pub marked_keeps : ((s : Sending) (m : Marks) → P s → P (record s { marks = m })) → (reply fs : List Known) (s : Sending) → P s → P (all_marked reply s fs)
+  pub marked_keeps : ((s : Sending) (m : PeerBlocked) → P s → P (record s { marks = m })) → (reply fs : List Known) (s : Sending) → P s → P (all_marked reply s fs)
   marked_keeps step reply [] s h = h
   marked_keeps step reply (f ∷ fs) s h =
       marked_keeps step reply fs (marked reply s f) (fold_keeps P (λ t g. marked_if t (tells_blocked f g) g) (λ t g. mark_if step t (tells_blocked f g) g) reply s h)

@@ -10,7 +10,7 @@ use Rattle.st_keys.specs.declared.error.KeyError.{KeyError}
 use Rattle.st_keys.specs.Sealed.{opened}
 use Rattle.st_frames.specs.Frames.{Known, CloseFrame, ConnectionClose, OtherFrame, LimitFrame, ConnectionMaxData, BlockedFrame, ConnectionDataBlocked, StreamClose, StreamMoney, StreamMaxMoney, StreamMoneyBlocked, StreamData, StreamMaxData, StreamDataBlocked, Packet, frames_of}
 use Rattle.st_streams.proofs.SlotLemmas.{slot_cases}
-use Rattle.st_sender.specs.Sending.{Sending, Outgoing, SentFrame, Data, Whole, Flight, Marks, new_outgoing, outgoing_at, with_outgoing, changed_at, changed}
+use Rattle.st_sender.specs.Sending.{Sending, Outgoing, SentFrame, Data, Whole, Flight, PeerBlocked, new_outgoing, outgoing_at, with_outgoing, changed_at, changed}
 use Rattle.st_sender.specs.Answering.{acked_data, acked_close, after_whole_acked, after_acked, after_all_acked, landed, after_fulfilled, after_failed, Plain, after_told, after_all_told}
 use Rattle.st_receiver.specs.Streams.{Receiving}
 use Rattle.st_end.specs.State.{EndState}
@@ -142,7 +142,7 @@ opening_keeps s k e = new_out s k e
 pub opened_too_keeps : (r : Receiving) (s t : Sending) → KeepsSent s t → KeepsSent s (opened_too r t)
 opened_too_keeps r s t h = opened_keeps (KeepsSent s) r (λ u k on e g. sent_join s u (with_outgoing u k new_outgoing) g (new_out u k e)) t h
 
-marks_keep : (s t : Sending) (m : Marks) → KeepsSent s t → KeepsSent s (record t { marks = m })
+marks_keep : (s t : Sending) (m : PeerBlocked) → KeepsSent s t → KeepsSent s (record t { marks = m })
 marks_keep s t m h = record { width = h.width; each = h.each; paid = h.paid }
 
 pub all_marked_keeps : (reply fs : List Known) (s t : Sending) → KeepsSent s t → KeepsSent s (all_marked reply t fs)

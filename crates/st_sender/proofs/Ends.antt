@@ -8,7 +8,7 @@ use Rattle.st_frames.specs.Frames.{Known, CloseFrame, StreamClose}
 use Rattle.st_sender.specs.declared.bounds.Bounds.{Bounds}
 use Rattle.st_sender.specs.declared.load.SentFrame as code
 use Rattle.st_sender.specs.declared.load.SentFrame.TheVariants as held
-use Rattle.st_sender.specs.Sending.{Outgoing, Data, Whole, SentFrame, Flight, Marks, Sending, outgoing_at}
+use Rattle.st_sender.specs.Sending.{Outgoing, Data, Whole, SentFrame, Flight, PeerBlocked, Sending, outgoing_at}
 use Rattle.st_sender.specs.Flights.{end_of, highest_end, sent_end, all_ends}
 use Rattle.st_sender.specs.Turns.{is_among}
 use Rattle.st_sender.specs.Lanes.{SendStream, outs, AreBooked}
@@ -57,7 +57,7 @@ module _ (s : Sending) (lanes : Slots SendStream) (is : s.streams ≡ outs lanes
   unfolding all_ends
   ends_whole g fs = sum_same (λ j. max (sent_end s j (outgoing_at s j)) (highest_end j (Whole g ∷ fs))) (λ j. max (sent_end s j (outgoing_at s j)) (highest_end j fs)) 0 65 (λ j h. omega arith)
 
-  pub next_ends : (m : Marks) (limits : List Known) (b : Bounds) (fs : List code.SentFrame) → AreNext lanes s.flights m limits b fs → all_ends s (kept fs) ≡ lane_ends lanes s.flights 0 65 + raises lanes s.flights fs
+  pub next_ends : (m : PeerBlocked) (limits : List Known) (b : Bounds) (fs : List code.SentFrame) → AreNext lanes s.flights m limits b fs → all_ends s (kept fs) ≡ lane_ends lanes s.flights 0 65 + raises lanes s.flights fs
   next_ends m limits b [] p = omega (arith, ends_same s lanes 0 is len tied)
   next_ends m limits b (held.Data k o c ∷ fs) p =
       omega (arith, ends_more k o c (kept fs) p.0.is_own (no_top k fs p.1), next_ends m limits (left_by b (c + 32) (o + c - end_at lanes s.flights k)) fs p.2)
@@ -65,7 +65,7 @@ module _ (s : Sending) (lanes : Slots SendStream) (is : s.streams ≡ outs lanes
   next_ends m limits b (held.Notice n ∷ fs) p = omega (arith, ends_whole (telling n) (kept fs), next_ends m limits (less b 36) fs p.2)
 
   -- they take no more than is spare
-  pub next_raises : (m : Marks) (limits : List Known) (b : Bounds) (fs : List code.SentFrame) → AreNext lanes s.flights m limits b fs → raises lanes s.flights fs ≤ b.spare
+  pub next_raises : (m : PeerBlocked) (limits : List Known) (b : Bounds) (fs : List code.SentFrame) → AreNext lanes s.flights m limits b fs → raises lanes s.flights fs ≤ b.spare
   next_raises m limits b [] p = omega arith
   next_raises m limits b (held.Data k o c ∷ fs) p =
       omega (arith, p.0.ready.allowed.connection, end_here s lanes 0 is len tied k p.0.lane p.0.is_open, next_raises m limits (left_by b (c + 32) (o + c - end_at lanes s.flights k)) fs p.2)
@@ -82,7 +82,7 @@ module _ (s : Sending) (lanes : Slots SendStream) (is : s.streams ≡ outs lanes
     | inr other ↦ omega (arith, apart_top k j o c other)
   ]
 
-  pub next_tops : (m : Marks) (limits : List Known) (b : Bounds) (fs : List code.SentFrame) → AreNext lanes s.flights m limits b fs → (j : ℕ) (x : Outgoing) → outgoing_at s j ≡ Some x → highest_end j (kept fs) ≤ x.told
+  pub next_tops : (m : PeerBlocked) (limits : List Known) (b : Bounds) (fs : List code.SentFrame) → AreNext lanes s.flights m limits b fs → (j : ℕ) (x : Outgoing) → outgoing_at s j ≡ Some x → highest_end j (kept fs) ≤ x.told
   next_tops m limits b [] p j x at = omega arith
   next_tops m limits b (held.Data k o c ∷ fs) p j x at = omega (arith, own_within b k o c p.0 j x at, next_tops m limits (left_by b (c + 32) (o + c - end_at lanes s.flights k)) fs p.2 j x at)
   next_tops m limits b (held.Close k by ∷ fs) p j x at = omega (arith, next_tops m limits (less b 20) fs p.1 j x at)

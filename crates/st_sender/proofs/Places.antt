@@ -3,7 +3,7 @@ use Rattle.std.proofs.Common.{◌≡◌, ◌≢◌, ℕ, zero, suc, ◌<◌, Lis
 use Rattle.std.specs.List.{remove}
 use Rattle.st_sender.specs.Sending.{Flight}
 use Rattle.st_sender.specs.Flights.{flight_at, without_flight}
-use Rattle.st_sender.proofs.Landing.{same_test, other_test}
+use Rattle.st_sender.proofs.FlightsLeft.{same_test, other_test}
 
 abbrev pub NoneBefore : List Flight → ℕ → ℕ → Type 0
 NoneBefore xs i n = (k : ℕ) (d : Flight) → k < i → (get_or xs k d).sequence ≢ n

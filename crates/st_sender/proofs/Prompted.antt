@@ -13,12 +13,12 @@ use Rattle.st_sender.specs.declared.load.SentFrame as code
 use Rattle.st_sender.specs.declared.load.SentFrame.TheVariants as held
 use Rattle.st_sender.specs.declared.notice.Notice.{Notice}
 use Rattle.st_sender.specs.declared.notice.Notice.TheVariants as said
-use Rattle.st_sender.specs.Sending.{Outgoing, Flight, Marks}
+use Rattle.st_sender.specs.Sending.{Outgoing, Flight, PeerBlocked}
 use Rattle.st_sender.specs.Flights.{closes, tells, is_close, same_limit}
 use Rattle.st_sender.specs.Due.{IsAbort, IsCleanClose}
 use Rattle.st_sender.specs.Loads.{same_due}
 use Rattle.st_sender.specs.Lanes.{SendStream}
-use Rattle.st_sender.specs.Noticed.{is_limit, IsAwaited, NoneAwaited}
+use Rattle.st_sender.specs.ControlFrames.{is_limit, IsAwaited, NoneAwaited}
 use Rattle.st_sender.specs.Allowed.{close_size, IsFinished, NoneReady, IsNone, less, cost, costs, AreNext, IsCloseBelow, IsLimit, IsPrompted, IsData, AreDistinct, has_close, has_limit, AreClosings, AreAwaited, IsRoundOf, AreChosen}
 use Rattle.st_sender.specs.Shown.{shown, known_by, telling, framed}
 use Rattle.st_sender.proofs.Readiness.{none_more}
@@ -69,15 +69,15 @@ less_none b n z = let e : b.room - n ≡ b.room = omega (arith, z) in ap (λ (i 
 pub finished_rises : (flights : List Flight) (b c : Bounds) (k : ℕ) (l : SendStream) (code : ℕ) → b.sequence ≡ c.sequence → b.room ≤ c.room → IsFinished flights b k l code → IsFinished flights c k l code
 finished_rises flights b c k l code same h f = record { idle = f.idle; asked = f.asked; room_left = omega (arith, f.room_left, h, ap (λ i. close_size i k) same) }
 
-pub awaited_rises : (m : Marks) (flights : List Flight) (b : Bounds) (n p : ℕ) (f : Known) → b.room - n ≤ b.room - p → IsAwaited m flights (less b n) f → IsAwaited m flights (less b p) f
+pub awaited_rises : (m : PeerBlocked) (flights : List Flight) (b : Bounds) (n p : ℕ) (f : Known) → b.room - n ≤ b.room - p → IsAwaited m flights (less b n) f → IsAwaited m flights (less b p) f
 awaited_rises m flights b n p f h a = record { marked = a.marked; idle = a.idle; short = omega (arith, a.short, h) }
 
 -- ---- several frames
 
-abbrev Next : Slots SendStream → List Flight → Marks → List Known → List code.SentFrame → Bounds → Type 0
+abbrev Next : Slots SendStream → List Flight → PeerBlocked → List Known → List code.SentFrame → Bounds → Type 0
 Next lanes flights m limits fs b = AreNext lanes flights m limits b fs
 
-pub next_with : (lanes : Slots SendStream) (flights : List Flight) (m : Marks) (limits : List Known) (b : Bounds) (fs gs : List code.SentFrame) → AllByRecursion IsPrompted fs → AreNext lanes flights m limits b fs → AreNext lanes flights m limits (less b (costs fs)) gs → AreNext lanes flights m limits b (fs ++ gs)
+pub next_with : (lanes : Slots SendStream) (flights : List Flight) (m : PeerBlocked) (limits : List Known) (b : Bounds) (fs gs : List code.SentFrame) → AllByRecursion IsPrompted fs → AreNext lanes flights m limits b fs → AreNext lanes flights m limits (less b (costs fs)) gs → AreNext lanes flights m limits b (fs ++ gs)
 next_with lanes flights m limits b [] gs p a n = subst (Next lanes flights m limits gs) (less_none b 0 refl) n
 next_with lanes flights m limits b (held.Data k o c ∷ fs) gs p a n = absurd p.0
 next_with lanes flights m limits b (held.Close k c ∷ fs) gs p a n = (a.0, next_with lanes flights m limits (less b 20) fs gs p.1 a.1 (subst (Next lanes flights m limits gs) (sym (less_less b 20 (costs fs))) n))
@@ -252,7 +252,7 @@ module _ (lanes : Slots SendStream) (flights : List Flight) (b : Bounds) (n : �
 
 -- ---- limits
 
-pub awaited_none : (m : Marks) (flights : List Flight) (b : Bounds) (limits : List Known) → AreAwaited m flights b limits 0 limits []
+pub awaited_none : (m : PeerBlocked) (flights : List Flight) (b : Bounds) (limits : List Known) → AreAwaited m flights b limits 0 limits []
 awaited_none m flights b limits = record {
   goes = λ lanes. tt;
   each = tt;
@@ -282,10 +282,10 @@ limit_apart x (held.Data k o c) g xs p e = absurd p.0
 limit_apart x (held.Close k c) g xs p e = absurd p.0
 limit_apart x (held.Notice y) g xs p e = subst (λ (h : code.SentFrame). same_due (telling y) (known_by xs h) ≡ false) (sym e) (said_apart y x p.0 p.1)
 
-awaited_limit : (m : Marks) (flights : List Flight) (b : Bounds) (f : Known) → IsAwaited m flights b f → is_limit f ≡ true
+awaited_limit : (m : PeerBlocked) (flights : List Flight) (b : Bounds) (f : Known) → IsAwaited m flights b f → is_limit f ≡ true
 awaited_limit m flights b f a = by_test (is_limit f) (λ e. e) (λ e. absurd (no_limit m flights b f e a))
 
-module _ (m : Marks) (flights : List Flight) (b : Bounds) (limits : List Known) (n : ℕ) (x : Known) (more : List Known) (fs : List code.SentFrame) (within : n < length limits) (a : AreAwaited m flights b limits n (x ∷ more) fs) where
+module _ (m : PeerBlocked) (flights : List Flight) (b : Bounds) (limits : List Known) (n : ℕ) (x : Known) (more : List Known) (fs : List code.SentFrame) (within : n < length limits) (a : AreAwaited m flights b limits n (x ∷ more) fs) where
   abbrev Skips : Type 0
   Skips = (length limits ≤ 129 → IsAwaited m flights (less b 4644) x → has_limit x fs ≡ true) × (fs ≡ [] → ¬ IsAwaited m flights b x)
 
@@ -346,7 +346,7 @@ module _ (m : Marks) (flights : List Flight) (b : Bounds) (limits : List Known) 
 
 -- ---- all frames other than payments
 
-pub chosen : (lanes : Slots SendStream) (flights : List Flight) (m : Marks) (limits : List Known) (b : Bounds) (turn : ℕ) (cs ns ds fs : List code.SentFrame) (at : Bounds) (count : ℕ) → AreClosings lanes flights b 65 cs → AreAwaited m flights (less b (costs cs)) limits count [] ns → at ≡ less (less b (costs cs)) (costs ns)
+pub chosen : (lanes : Slots SendStream) (flights : List Flight) (m : PeerBlocked) (limits : List Known) (b : Bounds) (turn : ℕ) (cs ns ds fs : List code.SentFrame) (at : Bounds) (count : ℕ) → AreClosings lanes flights b 65 cs → AreAwaited m flights (less b (costs cs)) limits count [] ns → at ≡ less (less b (costs cs)) (costs ns)
     → IsRoundOf lanes flights at turn ds → AreDistinct ds → fs ≡ (cs ++ ns) ++ ds → AreChosen lanes flights m limits b turn fs
 chosen lanes flights m limits b turn cs ns ds fs at count c n at_is round apart_data is =
     let prompt = cs ++ ns in
@@ -384,7 +384,7 @@ none_both : (prompt ds : List code.SentFrame) → [] ≡ prompt ++ ds → (promp
 none_both [] ds e = (refl, sym e)
 none_both (f ∷ fs) ds e = absurd (cc)
 
-pub chosen_none : (lanes : Slots SendStream) (flights : List Flight) (m : Marks) (limits : List Known) (b : Bounds) (turn : ℕ) → AreChosen lanes flights m limits b turn [] → IsNone lanes flights b × NoneAwaited m flights b limits
+pub chosen_none : (lanes : Slots SendStream) (flights : List Flight) (m : PeerBlocked) (limits : List Known) (b : Bounds) (turn : ℕ) → AreChosen lanes flights m limits b turn [] → IsNone lanes flights b × NoneAwaited m flights b limits
 chosen_none lanes flights m limits b turn c =
     let w = none_both c.prompt c.data_frames c.are in
     let idle = c.none w.0 in
@@ -411,7 +411,7 @@ place_in see [] i d h = absurd (omega arith)
 place_in see (x ∷ xs) zero d h = (0, omega arith, refl)
 place_in see (x ∷ xs) (suc i) d h = let r = place_in see xs i d (omega arith) in (suc r.0, omega (arith, r.1), r.2)
 
-module _ (m : Marks) (flights : List Flight) (b : Bounds) {X : Type 0} (see : X → Known) (xs : List X) (i : ℕ) (fs : List code.SentFrame) (at : Bounds) (at_is : at ≡ less b (costs fs)) (lt : i < length xs) (a : AreAwaited m flights b (map see xs) i (map see (drop i xs)) fs) (d : X) where
+module _ (m : PeerBlocked) (flights : List Flight) (b : Bounds) {X : Type 0} (see : X → Known) (xs : List X) (i : ℕ) (fs : List code.SentFrame) (at : Bounds) (at_is : at ≡ less b (costs fs)) (lt : i < length xs) (a : AreAwaited m flights b (map see xs) i (map see (drop i xs)) fs) (d : X) where
   abbrev After : List code.SentFrame → Type 0
   After gs = AreAwaited m flights b (map see xs) (i + 1) (map see (drop (i + 1) xs)) gs
 
@@ -441,11 +441,11 @@ module _ (m : Marks) (flights : List Flight) (b : Bounds) {X : Type 0} (see : X 
       awaited_push m flights b (map see xs) i (see (get_or xs i d)) (map see (drop (i + 1) xs)) fs inside here y gs (place_in see xs i d lt) named (subst (λ (c : Bounds). IsAwaited m flights c (telling y)) at_is w) few new is
 
 -- whatever the place is called
-pub full_any : (m : Marks) (flights : List Flight) (b : Bounds) {X : Type 0} (see : X → Known) (xs : List X) (i : ℕ) (fs : List code.SentFrame) (at : Bounds) → at ≡ less b (costs fs) → i < length xs → AreAwaited m flights b (map see xs) i (map see (drop i xs)) fs → 129 ≤ length fs → AreAwaited m flights b (map see xs) (i + 1) (map see (drop (i + 1) xs)) fs
+pub full_any : (m : PeerBlocked) (flights : List Flight) (b : Bounds) {X : Type 0} (see : X → Known) (xs : List X) (i : ℕ) (fs : List code.SentFrame) (at : Bounds) → at ≡ less b (costs fs) → i < length xs → AreAwaited m flights b (map see xs) i (map see (drop i xs)) fs → 129 ≤ length fs → AreAwaited m flights b (map see xs) (i + 1) (map see (drop (i + 1) xs)) fs
 full_any m flights b see [] i fs at at_is lt a h = absurd (omega (arith, lt))
 full_any m flights b see (x ∷ xs) i fs at at_is lt a h = full_this m flights b see (x ∷ xs) i fs at at_is lt a x h
 
-pub done_all : (m : Marks) (flights : List Flight) (b : Bounds) {X : Type 0} (see : X → Known) (xs : List X) (i : ℕ) (fs : List code.SentFrame) → length xs ≤ i → i ≤ length xs → AreAwaited m flights b (map see xs) i (map see (drop i xs)) fs → AreAwaited m flights b (map see xs) (length xs) [] fs
+pub done_all : (m : PeerBlocked) (flights : List Flight) (b : Bounds) {X : Type 0} (see : X → Known) (xs : List X) (i : ℕ) (fs : List code.SentFrame) → length xs ≤ i → i ≤ length xs → AreAwaited m flights b (map see xs) i (map see (drop i xs)) fs → AreAwaited m flights b (map see xs) (length xs) [] fs
 done_all m flights b see xs i fs past end a =
     let same : i ≡ length xs = omega arith in
     let none : map see (drop i xs) ≡ [] = ap (map see) (drop_all i xs past) in

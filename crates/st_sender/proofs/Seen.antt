@@ -5,7 +5,7 @@ use Rattle.std.specs.FinMap as fmap
 use Rattle.st_streams.specs.Slots.{Slots, slot, with_slot}
 use Rattle.st_sender.specs.Sending.{Outgoing, Flight, Sending, outgoing_at, changed, changed_at, with_outgoing, new_outgoing}
 use Rattle.st_sender.specs.Lanes.{SendStream, on_out, changed_to, changed_lane, out_of, outs, flying_by, flying_in, AreBooked, new_lane}
-use Rattle.st_sender.specs.Landing.{AreTied}
+use Rattle.st_sender.specs.FlightsLeft.{AreTied}
 use Rattle.st_sender.specs.Paying.{AreFunded, fulfilled_in, offered_in, flown_money}
 use Rattle.st_streams.proofs.SlotLemmas.{slot_cases}
 

@@ -9,7 +9,7 @@ use Rattle.st_frames.specs.Frames.{Known, StreamData}
 use Rattle.st_sender.specs.declared.bounds.Bounds.{Bounds}
 use Rattle.st_sender.specs.declared.load.SentFrame as code
 use Rattle.st_sender.specs.declared.load.SentFrame.TheVariants as held
-use Rattle.st_sender.specs.Sending.{Flight, Marks}
+use Rattle.st_sender.specs.Sending.{Flight, PeerBlocked}
 use Rattle.st_sender.specs.Flights.{flying_end}
 use Rattle.st_sender.specs.Lanes.{SendStream}
 use Rattle.st_sender.specs.Turns.{comes_before, is_among, AreInOrder}
@@ -91,7 +91,7 @@ still_apart : (j k o c : ℕ) (fs : List code.SentFrame) → is_among j (serves 
 still_apart j k o c fs e d =
     ap (is_among j) (serves_with fs (held.Data k o c ∷ [])) ∙ among_append j (serves fs) (k ∷ []) ∙ or_both (is_among j (serves fs)) (is_among j (k ∷ [])) e (or_both (nat_eq j k) false d refl)
 
-pub next_push : (lanes : Slots SendStream) (flights : List Flight) (m : Marks) (limits : List Known) (b : Bounds) (fs : List code.SentFrame) (k o c : ℕ) → AllByRecursion IsData fs → AreNext lanes flights m limits b fs → IsReadyAt lanes flights (left_beside lanes flights b fs) k o c → is_among k (serves fs) ≡ false
+pub next_push : (lanes : Slots SendStream) (flights : List Flight) (m : PeerBlocked) (limits : List Known) (b : Bounds) (fs : List code.SentFrame) (k o c : ℕ) → AllByRecursion IsData fs → AreNext lanes flights m limits b fs → IsReadyAt lanes flights (left_beside lanes flights b fs) k o c → is_among k (serves fs) ≡ false
     → AreNext lanes flights m limits b (fs ++ held.Data k o c ∷ [])
 next_push lanes flights m limits b [] k o c d a r apart = (subst (λ (x : Bounds). IsReadyAt lanes flights x k o c) (left_none lanes flights b) r, refl, tt)
 next_push lanes flights m limits b (held.Data j p n ∷ fs) k o c d a r apart =
@@ -189,7 +189,7 @@ all_apart k o xs (held.Data j p n ∷ fs) d e = let w = or_false (nat_eq k j) (i
 all_apart k o xs (held.Close j by ∷ fs) d e = absurd d.0
 all_apart k o xs (held.Notice n ∷ fs) d e = absurd d.0
 
-pub data_distinct : (lanes : Slots SendStream) (flights : List Flight) (m : Marks) (limits : List Known) (b : Bounds) (fs : List code.SentFrame) → AllByRecursion IsData fs → AreNext lanes flights m limits b fs → AreDistinct fs
+pub data_distinct : (lanes : Slots SendStream) (flights : List Flight) (m : PeerBlocked) (limits : List Known) (b : Bounds) (fs : List code.SentFrame) → AllByRecursion IsData fs → AreNext lanes flights m limits b fs → AreDistinct fs
 data_distinct lanes flights m limits b [] d a xs = tt
 data_distinct lanes flights m limits b (held.Data k o c ∷ fs) d a xs = (all_apart k o xs fs d.1 a.1, data_distinct lanes flights m limits (left_by b (c + 32) (o + c - end_at lanes flights k)) fs d.1 a.2 xs)
 data_distinct lanes flights m limits b (held.Close k by ∷ fs) d a xs = absurd d.0

@@ -6,7 +6,7 @@ use Rattle.st_frames.specs.Frames.{Known, BlockedFrame}
 use Rattle.st_sender.specs.Sending.{Load, Sending}
 use Rattle.st_sender.specs.Flights.{is_close, same_limit}
 use Rattle.st_sender.specs.Due.{IsDue, IsDueClose}
-use Rattle.st_sender.specs.Noticed.{is_limit}
+use Rattle.st_sender.specs.ControlFrames.{is_limit}
 
 abbrev pub is_blocked : Known → Bool
 is_blocked (BlockedFrame b) = true

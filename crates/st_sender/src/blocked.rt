@@ -3,7 +3,7 @@
 ghost use Rattle.std.specs.Prelude.{◌≡◌, true, false, ◌<◌, ◌^◌, length, MatchOption};
 ghost use Rattle.st_sender.specs.Due as due;
 ghost use Rattle.st_sender.specs.Shown.{telling};
-ghost use Rattle.st_sender.specs.Noticed.{IsBlockedAt, NoneBlocked, IsHeldAt, NoneHeld, IsHeld, NotHeld, IsDataNotice, IsMoneyNotice, IsStreamNotice, IsConnectionNotice};
+ghost use Rattle.st_sender.specs.ControlFrames.{IsBlockedAt, NoneBlocked, IsHeldAt, NoneHeld, IsHeld, NotHeld, IsDataNotice, IsMoneyNotice, IsStreamNotice, IsConnectionNotice};
 
 use crate::bounds::Bounds;
 use crate::in_flight::{InFlight, ends_of};

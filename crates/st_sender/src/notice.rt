@@ -3,7 +3,7 @@
 ghost use Rattle.std.specs.Prelude.{◌≡◌, false, MatchOption};
 ghost use Rattle.st_frames.specs.Seen.{seen};
 ghost use Rattle.st_sender.specs.Flights.{same_limit};
-ghost use Rattle.st_sender.specs.Noticed.{is_limit};
+ghost use Rattle.st_sender.specs.ControlFrames.{is_limit};
 ghost use Rattle.st_sender.specs.Shown.{telling};
 ghost use Rattle.st_sender.specs.Stops.{stops_at};
 

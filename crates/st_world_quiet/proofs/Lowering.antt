@@ -7,7 +7,7 @@ use Rattle.std.proofs.lemmas.Nat.{le-div}
 use Rattle.std.proofs.lemmas.Bool.{cases_eq, cases_lt}
 use Rattle.st_streams.specs.Slots.{no_slots, slot}
 use Rattle.st_frames.specs.Frames.{CloseFrame, ConnectionClose, BlockedFrame, ConnectionDataBlocked, LimitFrame, ConnectionMaxData, OtherFrame, Known, StreamClose, StreamData, StreamDataBlocked, StreamMaxData, StreamMaxMoney, StreamMoney, StreamMoneyBlocked, max_packet}
-use Rattle.st_sender.specs.Sending.{Load, Marks, Outgoing, Sending, changed_at, outgoing_at}
+use Rattle.st_sender.specs.Sending.{Load, PeerBlocked, Outgoing, Sending, changed_at, outgoing_at}
 use Rattle.st_sender.specs.Flights.{due_money, due_at, flight_of, flown, is_close}
 use Rattle.st_sender.specs.Due.{IsAbort, IsCleanClose, IsDue, IsDueData, IsDueLimit}
 use Rattle.st_sender.specs.Loads.{IsIdle, Sends, with_flight}
@@ -189,9 +189,9 @@ only_closes n s limits (BlockedFrame (StreamMoneyBlocked k m t)) quiet none poor
     absurd (let w = quiet.streams k due.stream due.is_open in let d = due_is_left s k due.stream quiet.alone w.alive in let z = no_money s k due.stream quiet.slots poor due.is_open in
     let arrives = whole_arrives s.config.least (due_money s k due.stream) quiet.whole in
     let a = due.waits in omega (arith, arrives, d, z, a))
-only_closes n s limits (LimitFrame (ConnectionMaxData v)) quiet none poor due = absurd (no_limit_due s limits v s.marks.connection (LimitFrame (ConnectionMaxData v)) (ap (λ (m : Marks). m.connection) quiet.unmarked) due)
-only_closes n s limits (LimitFrame (StreamMaxData k v)) quiet none poor due = absurd (no_limit_due s limits v (slot s.marks.offsets k) (LimitFrame (StreamMaxData k v)) (ap (λ (m : Marks). slot m.offsets k) quiet.unmarked ∙ no_slot k) due)
-only_closes n s limits (LimitFrame (StreamMaxMoney k v t)) quiet none poor due = absurd (no_limit_due s limits v (slot s.marks.money k) (LimitFrame (StreamMaxMoney k v t)) (ap (λ (m : Marks). slot m.money k) quiet.unmarked ∙ no_slot k) due)
+only_closes n s limits (LimitFrame (ConnectionMaxData v)) quiet none poor due = absurd (no_limit_due s limits v s.marks.connection (LimitFrame (ConnectionMaxData v)) (ap (λ (m : PeerBlocked). m.connection) quiet.unmarked) due)
+only_closes n s limits (LimitFrame (StreamMaxData k v)) quiet none poor due = absurd (no_limit_due s limits v (slot s.marks.offsets k) (LimitFrame (StreamMaxData k v)) (ap (λ (m : PeerBlocked). slot m.offsets k) quiet.unmarked ∙ no_slot k) due)
+only_closes n s limits (LimitFrame (StreamMaxMoney k v t)) quiet none poor due = absurd (no_limit_due s limits v (slot s.marks.money k) (LimitFrame (StreamMaxMoney k v t)) (ap (λ (m : PeerBlocked). slot m.money k) quiet.unmarked ∙ no_slot k) due)
 only_closes n s limits (CloseFrame (ConnectionClose code message)) quiet none poor due = absurd due
 only_closes n s limits (OtherFrame o) quiet none poor due = absurd due
 

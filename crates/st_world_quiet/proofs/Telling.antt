@@ -7,7 +7,7 @@ use Rattle.std.proofs.lemmas.Bool.Decides.{nat_tests}
 use Rattle.std.proofs.lemmas.List.{length-set}
 use Rattle.st_streams.specs.Slots.{slot}
 use Rattle.st_frames.specs.Frames.{CloseFrame, ConnectionClose, BlockedFrame, ConnectionDataBlocked, LimitFrame, ConnectionMaxData, OtherFrame, Known, StreamClose, StreamData, StreamDataBlocked, StreamMaxData, StreamMaxMoney, StreamMoney, StreamMoneyBlocked}
-use Rattle.st_sender.specs.Sending.{Marks, Outgoing, Sending, changed_at, outgoing_at}
+use Rattle.st_sender.specs.Sending.{PeerBlocked, Outgoing, Sending, changed_at, outgoing_at}
 use Rattle.st_sender.specs.Flights.{flown}
 use Rattle.st_sender.specs.Due.{IsDue}
 use Rattle.st_sender.specs.Answering.{after_acked, after_all_acked, after_all_told, after_told, raised_money, told_data, advertised_receive_max}
@@ -211,9 +211,9 @@ rest_acked n q s limits (CloseFrame (StreamClose j code message)) quiet due = re
 rest_acked n q s limits (BlockedFrame (StreamDataBlocked j m)) quiet due = rest_changed s j _ (outgoing_at s j)
 rest_acked n q s limits (BlockedFrame (StreamMoneyBlocked j m t)) quiet due = rest_changed s j _ (outgoing_at s j)
 rest_acked n q s limits (BlockedFrame (ConnectionDataBlocked m)) quiet due = record { config = refl; flights = refl; last = refl; marks = refl; packet_limit = refl; failed = refl; slots = refl; told = omega arith }
-rest_acked n q s limits (LimitFrame (ConnectionMaxData v)) quiet due = absurd (no_limit_due q limits v q.marks.connection (LimitFrame (ConnectionMaxData v)) (ap (λ (m : Marks). m.connection) quiet.unmarked) due)
-rest_acked n q s limits (LimitFrame (StreamMaxData k v)) quiet due = absurd (no_limit_due q limits v (slot q.marks.offsets k) (LimitFrame (StreamMaxData k v)) (ap (λ (m : Marks). slot m.offsets k) quiet.unmarked ∙ no_slot k) due)
-rest_acked n q s limits (LimitFrame (StreamMaxMoney k v t)) quiet due = absurd (no_limit_due q limits v (slot q.marks.money k) (LimitFrame (StreamMaxMoney k v t)) (ap (λ (m : Marks). slot m.money k) quiet.unmarked ∙ no_slot k) due)
+rest_acked n q s limits (LimitFrame (ConnectionMaxData v)) quiet due = absurd (no_limit_due q limits v q.marks.connection (LimitFrame (ConnectionMaxData v)) (ap (λ (m : PeerBlocked). m.connection) quiet.unmarked) due)
+rest_acked n q s limits (LimitFrame (StreamMaxData k v)) quiet due = absurd (no_limit_due q limits v (slot q.marks.offsets k) (LimitFrame (StreamMaxData k v)) (ap (λ (m : PeerBlocked). slot m.offsets k) quiet.unmarked ∙ no_slot k) due)
+rest_acked n q s limits (LimitFrame (StreamMaxMoney k v t)) quiet due = absurd (no_limit_due q limits v (slot q.marks.money k) (LimitFrame (StreamMaxMoney k v t)) (ap (λ (m : PeerBlocked). slot m.money k) quiet.unmarked ∙ no_slot k) due)
 rest_acked n q s limits (CloseFrame (ConnectionClose code message)) quiet due = absurd due
 rest_acked n q s limits (OtherFrame o) quiet due = absurd due
 

@@ -1,6 +1,6 @@
 use Rattle.std.proofs.Common.{List, ◌∙◌, refl, sym, subst, arith}
 use Rattle.st_sender.specs.Sending.{Flight}
-use Rattle.st_sender.specs.Noticed.{IsHeldAt, NoneHeld}
+use Rattle.st_sender.specs.ControlFrames.{IsHeldAt, NoneHeld}
 use Rattle.st_sender.proofs.blocked.connection_blocked.Goals as goal
 
 pub returns-then-is_any_held : goal.returns-then-is_any_held

@@ -1,4 +1,4 @@
-use Rattle.st_sender.specs.Noticed.{NoneBlocked}
+use Rattle.st_sender.specs.ControlFrames.{NoneBlocked}
 use Rattle.st_sender.proofs.blocked.first_blocked.Given as goal
 
 abbrev pub invariant-loop-number : goal.invariant-loop-number

@@ -1,4 +1,4 @@
-use Rattle.st_sender.specs.Noticed.{NoneHeld}
+use Rattle.st_sender.specs.ControlFrames.{NoneHeld}
 use Rattle.st_sender.proofs.blocked.is_any_held.Given as goal
 
 abbrev pub invariant-loop-number : goal.invariant-loop-number

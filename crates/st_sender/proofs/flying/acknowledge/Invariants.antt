@@ -1,6 +1,6 @@
 use Rattle.std.proofs.Common.{◌≡◌, ℕ, ◌+◌, ◌≤◌, map, drop}
 use Rattle.st_streams.specs.Slots.{slot}
-use Rattle.st_sender.specs.Landing.{all_acked}
+use Rattle.st_sender.specs.FlightsLeft.{all_acked}
 use Rattle.st_sender.specs.Paying.{fulfilled_in, offered_in, paid_to}
 use Rattle.st_sender.specs.Shown.{shown_payment}
 use Rattle.st_sender.proofs.flying.acknowledge.Given as goal

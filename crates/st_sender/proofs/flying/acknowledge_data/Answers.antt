@@ -1,5 +1,5 @@
 use Rattle.std.proofs.Common.{arith}
-use Rattle.st_sender.specs.Landing.{acked_by}
+use Rattle.st_sender.specs.FlightsLeft.{acked_by}
 use Rattle.st_sender.proofs.Changing.{lane_none, lane_past}
 use Rattle.st_sender.proofs.flying.acknowledge_data.Goals as goal
 

@@ -1,5 +1,5 @@
 use Rattle.std.proofs.Common.{arith}
-use Rattle.st_sender.specs.Landing.{freed_by}
+use Rattle.st_sender.specs.FlightsLeft.{freed_by}
 use Rattle.st_sender.proofs.Changing.{lane_changed, lane_none, lane_past}
 use Rattle.st_sender.proofs.flying.free_data.Goals as goal
 

@@ -1,6 +1,6 @@
 use Rattle.std.proofs.Common.{ap, length}
 use Rattle.st_sender.proofs.Seen.{none_tied}
-use Rattle.st_sender.proofs.Landing.{none_ordered}
+use Rattle.st_sender.proofs.FlightsLeft.{none_ordered}
 use Rattle.st_sender.proofs.outbox.Outbox.new.Goals as goal
 
 pub invariant_of-result : goal.invariant_of-result

@@ -10,7 +10,7 @@ use Rattle.st_sender.specs.Sending.{Flight}
 use Rattle.st_sender.specs.Flights.{carries, flight_at, without_flight, part_of}
 use Rattle.st_sender.specs.Paying.{flown_money}
 use Rattle.st_sender.specs.Lanes.{flying_by}
-use Rattle.st_sender.specs.Landing.{AreApart, AreOrdered}
+use Rattle.st_sender.specs.FlightsLeft.{AreApart, AreOrdered}
 use Rattle.st_sender.proofs.Going.{or_else, flying_push}
 
 pub same_test : {A : Type 0} (m n : ℕ) (x y : A) → m ≡ n → cond (eqb m n) x y ≡ x

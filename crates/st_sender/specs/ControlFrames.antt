@@ -11,7 +11,7 @@ use Rattle.st_frames.specs.Written.{packet_length}
 use Rattle.st_sender.specs.declared.bounds.Bounds.{Bounds}
 use Rattle.st_sender.specs.declared.notice.Notice.{Notice}
 use Rattle.st_sender.specs.declared.notice.Notice.TheVariants as said
-use Rattle.st_sender.specs.Sending.{Data, Whole, SentFrame, Flight, Load, Marks, Sending}
+use Rattle.st_sender.specs.Sending.{Data, Whole, SentFrame, Flight, Load, PeerBlocked, Sending}
 use Rattle.st_sender.specs.Flights.{any_frame, tells, flying_end, all_ends, room_for}
 use Rattle.st_sender.specs.Answering.{mark_after, marks_after, higher}
 use Rattle.st_sender.specs.Lanes.{SendStream, due_in}
@@ -114,45 +114,45 @@ abbrev pub is_above : Option ℕ → (limit : ℕ) → Bool
 is_above None limit = false
 is_above (Some m) limit = nat_lt m limit
 
-abbrev pub is_marked : Marks → Known → Bool
+abbrev pub is_marked : PeerBlocked → Known → Bool
 is_marked m (LimitFrame (ConnectionMaxData value)) = is_above m.connection value
 is_marked m (LimitFrame (StreamMaxData k value)) = is_above (slot m.offsets k) value
 is_marked m (LimitFrame (StreamMaxMoney k value total)) = is_above (slot m.money k) value
 is_marked m f = false
 
 -- the frame of a limit goes
-pub record IsAwaited (m : Marks) (flights : List Flight) (b : Bounds) (f : Known) : Type 0 where
+pub record IsAwaited (m : PeerBlocked) (flights : List Flight) (b : Bounds) (f : Known) : Type 0 where
   pub marked : is_marked m f ≡ true
   pub idle : any_frame (tells f) flights ≡ false
   pub short : IsShort b f
 
 -- the notice of a limit: none only if its frame does not go
-abbrev pub IsLimitNotice : Marks → List Flight → Bounds → Known → Option Notice → Type 0
+abbrev pub IsLimitNotice : PeerBlocked → List Flight → Bounds → Known → Option Notice → Type 0
 IsLimitNotice m flights b f notice =
     MatchOption notice (¬ IsAwaited m flights b f) (λ n. (telling n ≡ f) × IsAwaited m flights b (telling n))
 
-abbrev pub NoneAwaited : Marks → List Flight → Bounds → (limits : List Known) → Type 0
+abbrev pub NoneAwaited : PeerBlocked → List Flight → Bounds → (limits : List Known) → Type 0
 NoneAwaited m flights b limits = AllByRecursion (λ f. ¬ IsAwaited m flights b f) limits
 
 -- the marks once a limit was marked at its value
-abbrev pub marked : Marks → Known → Marks
+abbrev pub marked : PeerBlocked → Known → PeerBlocked
 marked m (LimitFrame (ConnectionMaxData value)) = record m { connection = Some value }
 marked m (LimitFrame (StreamMaxData k value)) = record m { offsets = slice_set m.offsets k (Some value) }
 marked m (LimitFrame (StreamMaxMoney k value total)) = record m { money = slice_set m.money k (Some value) }
 marked m f = m
 
 -- and once a frame was fulfilled
-abbrev pub marks_acked : Marks → Known → Marks
+abbrev pub marks_acked : PeerBlocked → Known → PeerBlocked
 marks_acked m (LimitFrame (ConnectionMaxData value)) = record m { connection = mark_after m.connection value }
 marks_acked m (LimitFrame (StreamMaxData k value)) = record m { offsets = marks_after m.offsets k value }
 marks_acked m (LimitFrame (StreamMaxMoney k value total)) = record m { money = marks_after m.money k value }
 marks_acked m f = m
 
-abbrev pub marks_flown : Marks → SentFrame → Marks
+abbrev pub marks_flown : PeerBlocked → SentFrame → PeerBlocked
 marks_flown m (Data k o n) = m
 marks_flown m (Whole f) = marks_acked m f
 
-abbrev pub all_marks_flown : Marks → List SentFrame → Marks
+abbrev pub all_marks_flown : PeerBlocked → List SentFrame → PeerBlocked
 all_marks_flown m [] = m
 all_marks_flown m (f ∷ fs) = all_marks_flown (marks_flown m f) fs
 

@@ -1,7 +1,7 @@
 use Rattle.std.proofs.Common.{◌≡◌, map, drop}
 use Rattle.st_frames.specs.Seen.{seen}
 use Rattle.st_sender.specs.Allowed.{AreAwaited, costs, less}
-use Rattle.st_sender.proofs.marks.Marks.all_awaited.Given as goal
+use Rattle.st_sender.proofs.peer_blocked.PeerBlocked.all_awaited.Given as goal
 
 abbrev pub invariant-loop-frame : goal.invariant-loop-frame
 invariant-loop-frame g l =

@@ -4,8 +4,8 @@ use Rattle.st_sender.specs.Allowed.{has_limit}
 use Rattle.st_sender.specs.Shown.{telling}
 use Rattle.st_sender.specs.declared.load.SentFrame.TheVariants as held
 use Rattle.st_sender.proofs.Prompted.{skip_this, told_this, full_any, push_this, done_all, push_left}
-use Rattle.st_sender.proofs.marks.Marks.all_awaited.Goals as goal
-use Rattle.st_sender.proofs.marks.Marks.all_awaited.Goals.{in-Some+then-len-lt-MAX_LIMITS+then-not-any_tells+in_ok-push, in-Some+else-len-lt-MAX_LIMITS, else-len-lt-MAX_LIMITS-via-then-len-lt-MAX_LIMITS+else-not-any_tells, else-len-lt-MAX_LIMITS-via-else-len-lt-MAX_LIMITS, in_default}
+use Rattle.st_sender.proofs.peer_blocked.PeerBlocked.all_awaited.Goals as goal
+use Rattle.st_sender.proofs.peer_blocked.PeerBlocked.all_awaited.Goals.{in-Some+then-len-lt-MAX_LIMITS+then-not-any_tells+in_ok-push, in-Some+else-len-lt-MAX_LIMITS, else-len-lt-MAX_LIMITS-via-then-len-lt-MAX_LIMITS+else-not-any_tells, else-len-lt-MAX_LIMITS-via-else-len-lt-MAX_LIMITS, in_default}
 
 pub loop-frame-preserved : goal.loop-frame-preserved
 loop-frame-preserved g c =
