@@ -13,7 +13,7 @@ use Rattle.st_end.specs.declared.role.Role.TheVariants.{Client, Server}
 
 pub record EndState : Type 0 where
   pub sending : Sending
-  pub conditions : FinMap nat_cmp (List ℕ)  -- of each flight, by its sequence
+  pub conditions : FinMap nat_cmp (List ℕ)  -- of each flight, by its sequence; in its place the IV, until the packet is sealed
   pub receiving : Receiving
   pub keys : DerivedKeys
   pub own : List ℕ  -- its address
