@@ -251,8 +251,8 @@ known_lawful e iv flight l = known_lawful_if (is_kept iv (map.get e.conditions f
 
 known_by : (t : Bool) (e : EndState) (flight : Open) (m : map.FinMap nat_cmp (List ℕ)) → (t ≡ true → m ≡ map.insert e.conditions flight.sequence flight.condition) → (t ≡ false → m ≡ e.conditions)
     → ◌≡◌ {A = EndState} (record e { conditions = m }) (known_if t e flight)
-known_by true e flight m yes no = ap (λ (y : map.FinMap nat_cmp (List ℕ)). record e { conditions = y }) (yes refl)
-known_by false e flight m yes no = ap (λ (y : map.FinMap nat_cmp (List ℕ)). record e { conditions = y }) (no refl)
+known_by true e flight m waiting other = ap (λ (y : map.FinMap nat_cmp (List ℕ)). record e { conditions = y }) (waiting refl)
+known_by false e flight m waiting other = ap (λ (y : map.FinMap nat_cmp (List ℕ)). record e { conditions = y }) (other refl)
 
 -- what a map keeps once it knows a condition, or not
 abbrev Knows : (m : map.FinMap nat_cmp (List ℕ)) → (iv : List ℕ) → Open → map.FinMap nat_cmp (List ℕ) → Bool → Type 0
@@ -260,12 +260,12 @@ Knows m iv flight n true = is_kept iv (map.get m flight.sequence) ≡ true → n
 Knows m iv flight n false = is_kept iv (map.get m flight.sequence) ≡ false → n ≡ m
 
 pub knows_lawful : (e : EndState) (iv : List ℕ) (m : map.FinMap nat_cmp (List ℕ)) (read : Open) → IsLawful e → Knows e.conditions iv read m true → Knows e.conditions iv read m false → IsLawful (record e { conditions = m })
-knows_lawful e iv m read l yes no = subst IsLawful (sym (known_by (is_kept iv (map.get e.conditions read.sequence)) e read m yes no)) (known_lawful e iv read l)
+knows_lawful e iv m read l waiting other = subst IsLawful (sym (known_by (is_kept iv (map.get e.conditions read.sequence)) e read m waiting other)) (known_lawful e iv read l)
 
 pub knows : (e now : EndState) (iv : List ℕ) (m : map.FinMap nat_cmp (List ℕ)) (read flight : Open) → e ≡ now → read ≡ flight → Knows e.conditions iv read m true → Knows e.conditions iv read m false
     → ◌≡◌ {A = EndState} (record e { conditions = m }) (known now iv flight)
-knows e now iv m read flight same is yes no =
-    known_by (is_kept iv (map.get e.conditions read.sequence)) e read m yes no
+knows e now iv m read flight same is waiting other =
+    known_by (is_kept iv (map.get e.conditions read.sequence)) e read m waiting other
     ∙ ap (λ (x : EndState). known x iv read) same
     ∙ ap (λ (f : Open). known now iv f) is
 
