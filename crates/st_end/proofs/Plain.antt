@@ -112,11 +112,11 @@ plain_is peer now p zeros payload bytes c at l spells writes long short is front
     }
 
 -- the same for the Prepare that was written, by its fields
-pub plain_of : (peer : List ℕ) (now : ℤ) (p : Load) (q : PreparePacket) (payload bytes : List ℕ) (c at : ℕ) → q.amount ≡ p.amount → q.expiry ≡ now +ℤ answer_time → q.destination ≡ peer → q.payload ≡ payload
-    → IsPrepare q → Spells p → written prepare_kind p.sequence p.least p.frames ≡ Ok (drop 28 payload) → 28 ≤ length payload → length payload ≤ 32767
+pub plain_of : (peer : List ℕ) (now : ℤ) (p : Load) (q : PreparePacket) (payload bytes : List ℕ) (c at : ℕ) → IsPrepare q → q.amount ≡ p.amount → q.expiry ≡ now +ℤ answer_time → q.destination ≡ peer → q.payload ≡ payload
+    → Spells p → written prepare_kind p.sequence p.least p.frames ≡ Ok (drop 28 payload) → 28 ≤ length payload → length payload ≤ 32767
     → bytes ≡ prepare_text q → c ≡ length (front_of q) → at ≡ c + 32 + length (middle_of q)
     → IsPlain peer now p bytes c at
-plain_of peer now p q payload bytes c at amount expiry destination same l spells writes long short is front behind =
+plain_of peer now p q payload bytes c at l amount expiry destination same spells writes long short is front behind =
     let named : q ≡ prepare_as peer now p.amount q.condition payload =
     ap (λ n. record q { amount = n }) amount
     ∙ ap (λ n. record q { amount = p.amount; expiry = n }) expiry

@@ -20,6 +20,18 @@ pub record EndState : Type 0 where
   pub peer : List ℕ  -- and the peer's
   pub last : Option Failed  -- why its last failed flight failed
 
+-- an end of these parts
+abbrev pub end_of : Sending → (conditions : FinMap nat_cmp (List ℕ)) → Receiving → DerivedKeys → (own peer : List ℕ) → Option Failed → EndState
+end_of sending conditions receiving keys own peer last = record {
+  sending = sending;
+  conditions = conditions;
+  receiving = receiving;
+  keys = keys;
+  own = own;
+  peer = peer;
+  last = last;
+}
+
 -- a client opens odd stream numbers, a server even ones
 abbrev pub parity : Role → ℕ
 parity Client = 1

@@ -46,6 +46,7 @@ impl<A: Allocator + Copy> Model for EndState<A> {
     ghost use Rattle.std.specs.Coded.{codes};
     ghost use Rattle.std.specs.FinMap as map;
     ghost use Rattle.st_end.specs.State as state;
+    ghost use Rattle.st_end.specs.State.{end_of};
     ghost use Rattle.st_end.specs.Lawful.{IsLawful};
     ghost use Rattle.st_end.specs.Receiving.{t00_text};
 
@@ -53,9 +54,10 @@ impl<A: Allocator + Copy> Model for EndState<A> {
 
     ghost coded = { Prim.hlevel (codes, map.code) };
 
-    ghost view = { λ s. record { sending = s.outbox; conditions = s.conditions; receiving = s.intake.state; keys = arc_value s.keys; own = string_bytes s.own; peer = string_bytes s.peer; last = s.last } };
+    ghost view = { λ s. end_of s.outbox s.conditions s.intake.state (arc_value s.keys) (string_bytes s.own) (string_bytes s.peer) s.last };
 
-    ghost invariant = { λ s. IsLawful (record { sending = s.outbox; conditions = s.conditions; receiving = s.intake.state; keys = arc_value s.keys; own = string_bytes s.own; peer = string_bytes s.peer; last = s.last }) × (s.t00.items ≡ t00_text (string_bytes s.own)) };
+    ghost invariant = { λ s. IsLawful (end_of s.outbox s.conditions s.intake.state (arc_value s.keys) (string_bytes s.own) (string_bytes s.peer) s.last)
+        × (s.t00.items ≡ t00_text (string_bytes s.own)) };
 }
 
 impl<A: Allocator + Copy> EndState<A> {
