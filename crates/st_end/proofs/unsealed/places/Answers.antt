@@ -17,6 +17,7 @@ overflow_sub-result-2 c =
 pub returns : goal.returns
 returns c =
     let q = prepare_seen c.args.prepare.now in
-    let long : length q.condition ≡ 32 = search rules in
-    (omega (arith, long, c.requires, length_parts q, length_middle q, c.length_size.ensures.value, c.length_size-2.ensures.value),
-     omega (arith, long, c.requires, length_parts q, length_middle q, c.length_size.ensures.value, c.length_size-2.ensures.value))
+    let long : length q.condition ≡ 32 = search rules in (
+      omega (arith, long, c.requires, length_parts q, length_middle q, c.length_size.ensures.value, c.length_size-2.ensures.value),
+      omega (arith, long, c.requires, length_parts q, length_middle q, c.length_size.ensures.value, c.length_size-2.ensures.value),
+    )
