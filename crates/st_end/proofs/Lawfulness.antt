@@ -22,6 +22,7 @@ use Rattle.st_receiver.specs.Streams.{Receiving, new_receiving}
 use Rattle.st_end.specs.declared.flight.Open.{Open}
 use Rattle.st_end.specs.State.{EndState}
 use Rattle.st_end.specs.Sending.{is_kept, open_flight, is_open}
+use Rattle.st_end.specs.Unsealed.{known_if, known}
 use Rattle.st_end.specs.Answers.{fits, raised, failure_of, answered_by, outcome_left, after_outcome, ended_with, ended}
 use Rattle.st_end.specs.Lawful.{IsLawful}
 use Rattle.st_end.proofs.Streams.{sends, receives, joined, alike, sends_stay}
@@ -175,7 +176,7 @@ lawful_after e flight p o at l =
 
 -- ---- open flights
 
-kept_found : (kept : Option (List ℕ)) (condition : List ℕ) → is_kept condition kept ≡ true → is_some kept ≡ true
+pub kept_found : (kept : Option (List ℕ)) (condition : List ℕ) → is_kept condition kept ≡ true → is_some kept ≡ true
 kept_found None condition h = absurd (false≢true h)
 kept_found (Some c) condition h = refl
 
@@ -229,6 +230,44 @@ pub lawful_ended : (e now after : EndState) (flight spent : Open) (o : Option (L
 lawful_ended e now after flight spent o same is open_here l own peer r left c =
     let f = open_found e spent (subst (λ (x : Open). is_open e x ≡ true) (sym is) (subst (λ (x : EndState). is_open x flight ≡ true) (sym same) open_here)) in
     lawful_left e after spent o f.carried f.at l own peer r (left f.carried f.at) c
+
+-- ---- a condition that becomes known
+
+known_kept : (m : map.FinMap nat_cmp (List ℕ)) (k q : ℕ) (c : List ℕ) → is_some (map.get m k) ≡ true → is_some (map.get (map.insert m k c) q) ≡ true → is_some (map.get m q) ≡ true
+known_kept m k q c here h = grind (arith, common_steps, map.gets)
+
+known_lawful_if : (t : Bool) (e : EndState) (iv : List ℕ) (flight : Open) → is_kept iv (map.get e.conditions flight.sequence) ≡ t → IsLawful e → IsLawful (known_if t e flight)
+known_lawful_if false e iv flight is l = l
+known_lawful_if true e iv flight is l = record {
+  own = l.own;
+  peer = l.peer;
+  kept = λ n h. l.kept n (known_kept e.conditions flight.sequence n flight.condition (kept_found (map.get e.conditions flight.sequence) iv is) h);
+  both = l.both;
+  places = l.places;
+}
+
+pub known_lawful : (e : EndState) (iv : List ℕ) (flight : Open) → IsLawful e → IsLawful (known e iv flight)
+known_lawful e iv flight l = known_lawful_if (is_kept iv (map.get e.conditions flight.sequence)) e iv flight refl l
+
+known_by : (t : Bool) (e : EndState) (flight : Open) (m : map.FinMap nat_cmp (List ℕ)) → (t ≡ true → m ≡ map.insert e.conditions flight.sequence flight.condition) → (t ≡ false → m ≡ e.conditions)
+    → ◌≡◌ {A = EndState} (record e { conditions = m }) (known_if t e flight)
+known_by true e flight m waiting other = ap (λ (y : map.FinMap nat_cmp (List ℕ)). record e { conditions = y }) (waiting refl)
+known_by false e flight m waiting other = ap (λ (y : map.FinMap nat_cmp (List ℕ)). record e { conditions = y }) (other refl)
+
+-- what a map keeps once it knows a condition, or not
+abbrev Knows : (m : map.FinMap nat_cmp (List ℕ)) → (iv : List ℕ) → Open → map.FinMap nat_cmp (List ℕ) → Bool → Type 0
+Knows m iv flight n true = is_kept iv (map.get m flight.sequence) ≡ true → n ≡ map.insert m flight.sequence flight.condition
+Knows m iv flight n false = is_kept iv (map.get m flight.sequence) ≡ false → n ≡ m
+
+pub knows_lawful : (e : EndState) (iv : List ℕ) (m : map.FinMap nat_cmp (List ℕ)) (read : Open) → IsLawful e → Knows e.conditions iv read m true → Knows e.conditions iv read m false → IsLawful (record e { conditions = m })
+knows_lawful e iv m read l waiting other = subst IsLawful (sym (known_by (is_kept iv (map.get e.conditions read.sequence)) e read m waiting other)) (known_lawful e iv read l)
+
+pub knows : (e now : EndState) (iv : List ℕ) (m : map.FinMap nat_cmp (List ℕ)) (read flight : Open) → e ≡ now → read ≡ flight → Knows e.conditions iv read m true → Knows e.conditions iv read m false
+    → ◌≡◌ {A = EndState} (record e { conditions = m }) (known now iv flight)
+knows e now iv m read flight same is waiting other =
+    known_by (is_kept iv (map.get e.conditions read.sequence)) e read m waiting other
+    ∙ ap (λ (x : EndState). known x iv read) same
+    ∙ ap (λ (f : Open). known now iv f) is
 
 -- what a failure does to what is in flight
 pub failed_left : (s t : Sending) (n : ℕ) (p : Flight) (why : Failure) → flight_at s.flights n ≡ Some p → MatchOption (flight_at s.flights n) (t ≡ s) (λ q. t ≡ after_failed s q why) → t ≡ after_failed s p why

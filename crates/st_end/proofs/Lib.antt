@@ -8,5 +8,6 @@ pub mod Replies
 pub mod Taking
 pub mod Judging
 pub mod Going
+pub mod Plain
 pub mod Sealing
 pub mod Room

@@ -1,14 +1,17 @@
 -- What the code reads off an answer before it opens its data in place, what became of a packet, and the Prepare of a packet.
-use Rattle.std.specs.Prelude.{◌≡◌, ◌≤◌, ℕ, ℤ, ◌+ℤ◌, List, false, drop, length, None, Some, Ok, Err}
+use Rattle.std.specs.Prelude.{◌≡◌, ◌≤◌, ℕ, ◌+◌, ℤ, ◌+ℤ◌, List, ◌∷◌, ◌++◌, false, nat_eq, if◌then◌else◌, take, drop, length, None, Some, Ok, Err}
+use Rattle.std.specs.Int.{w64, to_be_bytes}
 use Rattle.std.specs.List.{AllByRecursion}
 use Rattle.st_ilp.specs.Packets.{Fulfilled, Rejected}
 use Rattle.st_ilp.specs.Reading.{answer_at}
 use Rattle.st_ilp.specs.declared.error.IlpError.{IlpError}
 use Rattle.st_ilp.specs.Packets.{PreparePacket}
-use Rattle.st_ilp.specs.Spelling.{prepare_kind, fulfill_kind, prepare_text, answer_text}
+use Rattle.st_oer.specs.Spelling.{length_bytes, octets}
+use Rattle.st_ilp.specs.Expiry.{expiry_text}
+use Rattle.st_ilp.specs.Spelling.{prepare_kind, fulfill_kind, prepare_contents, prepare_text, answer_text}
 use Rattle.st_ilp.specs.Laws.{IsPrepare}
 use Rattle.st_frames.specs.Frames.{Packet, frames_of, max_packet, Known}
-use Rattle.st_frames.specs.Written.{is_unwritable, packet_length}
+use Rattle.st_frames.specs.Written.{is_unwritable, packet_length, written}
 use Rattle.st_keys.specs.Keys.{DerivedKeys, fulfillment, condition}
 use Rattle.st_keys.specs.Sealed.{sealed_packet}
 use Rattle.st_sender.specs.Sending.{Load, Sending}
@@ -56,20 +59,49 @@ IsJudged keys q p s r t u (packets.Taken bytes peer) =
     × (bytes.items ≡ answer_text (Fulfilled (fulfillment keys q.payload) (reply_payload keys fulfill_kind q p (effect r p q.amount))))
     × ((old : List ℕ) → text_or old peer ≡ new_peer old (frames_of p))
 
+-- an entry, with this value if it is the one of this key
+abbrev pub with_value : {X : Type 0} → ℕ → X → ℕ × X → ℕ × X
+with_value n v e = (e.0, if nat_eq e.0 n then v else e.1)
+
 -- a packet that can be written
 pub record IsSpellable (p : Load) : Type 0 where
   pub writable : AllByRecursion (λ f. is_unwritable f ≡ false) p.frames
   pub short : packet_length p.sequence p.least p.frames ≤ max_packet
 
--- a Prepare with this payload, to this peer
-abbrev pub prepare_to : DerivedKeys → (peer : List ℕ) → (now : ℤ) → (amount : ℕ) → (payload : List ℕ) → PreparePacket
-prepare_to keys peer now amount payload = record {
+-- a Prepare to this peer
+abbrev pub prepare_as : (peer : List ℕ) → (now : ℤ) → (amount : ℕ) → (condition payload : List ℕ) → PreparePacket
+prepare_as peer now amount condition payload = record {
   amount = amount;
   expiry = now +ℤ answer_time;
-  condition = condition (fulfillment keys payload);
+  condition = condition;
   destination = peer;
   payload = payload;
 }
+
+-- one with this payload, whose condition these keys make
+abbrev pub prepare_to : DerivedKeys → (peer : List ℕ) → (now : ℤ) → (amount : ℕ) → (payload : List ℕ) → PreparePacket
+prepare_to keys peer now amount payload = prepare_as peer now amount (condition (fulfillment keys payload)) payload
+
+-- what is in front of a Prepare's condition, and what is between its condition and its payload
+abbrev pub front_of : PreparePacket → List ℕ
+front_of q = prepare_kind ∷ (length_bytes (length (prepare_contents q)) ++ (to_be_bytes w64 q.amount ++ expiry_text q.expiry))
+
+abbrev pub middle_of : PreparePacket → List ℕ
+middle_of q = octets q.destination ++ length_bytes (length q.payload)
+
+-- bytes that are a Prepare of a packet once a condition and a payload are put at their places. The payload there has the packet's plain text
+pub record IsPlain (peer : List ℕ) (now : ℤ) (p : Load) (bytes : List ℕ) (condition_at payload_at : ℕ) : Type 0 where
+  pub text : List ℕ
+  pub spells : Spells p
+  pub writes : written prepare_kind p.sequence p.least p.frames ≡ Ok text
+  pub front : condition_at + 32 ≤ payload_at
+  pub back : payload_at + 28 ≤ length bytes
+  pub plain : drop 28 (drop payload_at bytes) ≡ text
+  pub lawful : (condition payload : List ℕ) → length condition ≡ 32 → length payload ≡ 28 + length text
+      → IsPrepare (prepare_as peer now p.amount condition payload)
+  pub whole : (condition payload : List ℕ) → length condition ≡ 32 → length payload ≡ 28 + length text
+      → take condition_at bytes ++ (condition ++ (drop (condition_at + 32) (take payload_at bytes) ++ payload))
+      ≡ prepare_text (prepare_as peer now p.amount condition payload)
 
 -- the flight of a packet that these keys seal, and the bytes of its Prepare
 pub record IsSpelled (keys : DerivedKeys) (peer iv : List ℕ) (now : ℤ) (p : Load) (flight : Open) (bytes : List ℕ) : Type 0 where

@@ -4,6 +4,7 @@ pub mod State
 pub mod Errors
 pub mod Calls
 pub mod Sending
+pub mod Unsealed
 pub mod Answers
 pub mod Receiving
 pub mod Reading

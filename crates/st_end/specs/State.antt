@@ -13,12 +13,24 @@ use Rattle.st_end.specs.declared.role.Role.TheVariants.{Client, Server}
 
 pub record EndState : Type 0 where
   pub sending : Sending
-  pub conditions : FinMap nat_cmp (List ℕ)  -- of each flight, by its sequence
+  pub conditions : FinMap nat_cmp (List ℕ)  -- of each flight, by its sequence; in its place the IV, until the packet is sealed
   pub receiving : Receiving
   pub keys : DerivedKeys
   pub own : List ℕ  -- its address
   pub peer : List ℕ  -- and the peer's
   pub last : Option Failed  -- why its last failed flight failed
+
+-- an end of these parts
+abbrev pub end_of : Sending → (conditions : FinMap nat_cmp (List ℕ)) → Receiving → DerivedKeys → (own peer : List ℕ) → Option Failed → EndState
+end_of sending conditions receiving keys own peer last = record {
+  sending = sending;
+  conditions = conditions;
+  receiving = receiving;
+  keys = keys;
+  own = own;
+  peer = peer;
+  last = last;
+}
 
 -- a client opens odd stream numbers, a server even ones
 abbrev pub parity : Role → ℕ

@@ -89,7 +89,7 @@ impl<A: Allocator + Copy> EndState<A> {
         ensures { result ≡ sending.is_open self.now flight.now }
     {
         let flight = flight.read();
-        self.conditions.has(flight.sequence, flight.condition)
+        self.conditions.has(flight.sequence, &flight.condition)
     }
 
     /// Handles the bytes that were returned for an open flight (RFC 0027), and says whether they are its Fulfill: one whose

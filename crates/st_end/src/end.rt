@@ -19,6 +19,7 @@ use st_receiver::Intake;
 use st_sender::{EndConfig, Outbox, OutboxError};
 use std::alloc::Allocator;
 use std::marker::Model;
+use std::sync::Arc;
 
 /// An end of a connection (RFC 0029): its sending side, its receiving side, its keys, its own address and its peer's.
 #[derive(Drop)]
@@ -27,7 +28,8 @@ pub struct EndState<A: Allocator + Copy> {
     /// Of what is in flight.
     pub(crate) conditions: Conditions<A>,
     pub(crate) intake: Intake<A>,
-    pub(crate) keys: Keys,
+    /// Shared with what is not sealed yet.
+    pub(crate) keys: Arc<Keys, A>,
     /// Its address.
     pub(crate) own: String<A>,
     /// And the peer's.
@@ -40,9 +42,11 @@ pub struct EndState<A: Allocator + Copy> {
 
 impl<A: Allocator + Copy> Model for EndState<A> {
     ghost use Rattle.std.specs.Prelude.{◌≡◌, string_bytes};
+    ghost use Rattle.std.specs.Arc.{arc_value};
     ghost use Rattle.std.specs.Coded.{codes};
     ghost use Rattle.std.specs.FinMap as map;
     ghost use Rattle.st_end.specs.State as state;
+    ghost use Rattle.st_end.specs.State.{end_of};
     ghost use Rattle.st_end.specs.Lawful.{IsLawful};
     ghost use Rattle.st_end.specs.Receiving.{t00_text};
 
@@ -50,9 +54,10 @@ impl<A: Allocator + Copy> Model for EndState<A> {
 
     ghost coded = { Prim.hlevel (codes, map.code) };
 
-    ghost view = { λ s. record { sending = s.outbox; conditions = s.conditions; receiving = s.intake.state; keys = s.keys; own = string_bytes s.own; peer = string_bytes s.peer; last = s.last } };
+    ghost view = { λ s. end_of s.outbox s.conditions s.intake.state (arc_value s.keys) (string_bytes s.own) (string_bytes s.peer) s.last };
 
-    ghost invariant = { λ s. IsLawful (record { sending = s.outbox; conditions = s.conditions; receiving = s.intake.state; keys = s.keys; own = string_bytes s.own; peer = string_bytes s.peer; last = s.last }) × (s.t00.items ≡ t00_text (string_bytes s.own)) };
+    ghost invariant = { λ s. IsLawful (end_of s.outbox s.conditions s.intake.state (arc_value s.keys) (string_bytes s.own) (string_bytes s.peer) s.last)
+        × (s.t00.items ≡ t00_text (string_bytes s.own)) };
 }
 
 impl<A: Allocator + Copy> EndState<A> {
@@ -74,6 +79,9 @@ impl<A: Allocator + Copy> EndState<A> {
         let t00 = ready_t00(alloc, own)?;
         let own = String::from_str(alloc, own)?;
         let peer = String::from_str(alloc, peer)?;
+        let Ok(keys) = Arc::new(alloc, keys) else {
+            return Err(EndError::NoMemory);
+        };
         let Ok(outbox) = Outbox::new(alloc, config) else {
             return Err(EndError::NoMemory);
         };

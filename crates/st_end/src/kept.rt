@@ -32,6 +32,15 @@ impl<const N: usize> Kept<N> {
         Kept { bytes, len }
     }
 
+    /// All of these bytes.
+    #[tactic(auto, using(std::proofs::lemmas::List::take_all))]
+    pub(crate) fn all_of(from: &[u8]) -> Kept<N>
+        requires { length from.now ≤ N }
+        ensures { result ≡ from.now }
+    {
+        Kept::first_of(from)
+    }
+
     /// The bytes.
     pub(crate) fn as_slice(&self) -> &[u8]
         ensures bytes { result.now ≡ self.now }

@@ -13,7 +13,6 @@ ghost use Rattle.st_end.specs.Totals as totals;
 
 use crate::end::EndState;
 use crate::error::EndError;
-use crate::flight::Flight;
 use st_sender::Blocked;
 use st_streams::{EndTotals, StreamRead};
 use std::alloc::Allocator;
@@ -73,12 +72,12 @@ impl<A: Allocator + Copy> EndState<A> {
         self.outbox.packet_limit()
     }
 
-    /// The limit of the peer at which bytes or money wait, if the Prepare of this flight carries a Blocked frame
-    /// (RFC 0029, section 5.3). `None` if it carries none, and once its outcome was reported. Does not allocate.
-    pub fn blocked_at(&self, flight: &Flight) -> Option<Blocked>
-        ensures { result ≡ blocked_at self.now.sending.flights flight.now.sequence }
+    /// The limit of the peer at which bytes or money wait, if the Prepare in flight under this sequence carries a Blocked
+    /// frame (RFC 0029, section 5.3). `None` if it carries none, and once its outcome was reported. Does not allocate.
+    pub fn blocked_at(&self, sequence: u64) -> Option<Blocked>
+        ensures { result ≡ blocked_at self.now.sending.flights sequence }
     {
-        self.outbox.blocked_at(flight.read().sequence)
+        self.outbox.blocked_at(sequence)
     }
 
     /// Whether the connection failed. Nothing is sent any more then. Does not allocate.

@@ -4,16 +4,16 @@ use Rattle.std.specs.Prelude.{Vec, is_ok, IfOk, OnErr, MatchOption}
 use Rattle.st_end.specs.State.{EndState}
 use Rattle.st_end.specs.declared.error.EndError.{EndError}
 use Rattle.st_end.specs.declared.error.EndError.TheVariants as end_errors
-use Rattle.st_end.specs.declared.flight.Open as flights
 use Rattle.st_end.specs.declared.received.Received.{Received}
 use Rattle.st_end.specs.Calls.{Answer, OrWants, open_stream, write}
 use Rattle.st_end.specs.Reading.{read}
-use Rattle.st_end.specs.Sending.{Goes, GoesNone}
+use Rattle.st_end.specs.Sending.{GoesNone}
+use Rattle.st_end.specs.Unsealed.{Launched, GoesUnsealed}
 use Rattle.st_end.specs.Receiving as receiving
 use Rattle.st_end.specs.Seen.{received_seen}
 use Rattle.st_hub.specs.Turns.{credited_by}
 use Rattle.st_hub.specs.Keeping.{Keeps}
-use Rattle.st_hub.proofs.EndEvents.{keeps_same, goes_keeps, Opened, opened_is}
+use Rattle.st_hub.proofs.EndEvents.{keeps_same, unsealed_keeps, Opened, opened_is}
 use Rattle.st_hub.proofs.Receiving.{received_keeps}
 
 pub receive_keeps : {X : Type 0} (e b : EndState) (bytes : List ℕ) (now : ℤ) (r : Result (Received X) EndError) → IfOk r (λ r. receiving.received e bytes now ≡ (received_seen r, b)) → IfOk r (λ r. Keeps (credited_by (received_seen r)) e b)
@@ -24,10 +24,10 @@ pub receive_some : {X : Type 0} (e b : EndState) (bytes : List ℕ) (now : ℤ) 
 receive_some e b bytes now (Ok x) h u = (credited_by (received_seen x), subst (λ (p : receiving.Received × EndState). Keeps (credited_by p.0) e p.1) h (received_keeps e bytes now))
 receive_some e b bytes now (Err why) h u = (0, subst (Keeps 0 e) (sym u) (keeps_same e))
 
-pub send_keeps : {X : Type 0} (e b : EndState) (iv : List ℕ) (now : ℤ) (r : Result (Option (flights.Open × Vec ℕ X)) EndError)
-    → IfOk r (λ s. MatchOption s (GoesNone e × (b ≡ e)) (λ x. Goes e iv now x.0 x.1.items b)) → OnErr r (b ≡ e) → Keeps 0 e b
+pub send_keeps : (e b : EndState) (iv : List ℕ) (now : ℤ) (r : Result (Option Launched) EndError)
+    → IfOk r (λ s. MatchOption s (GoesNone e × (b ≡ e)) (λ x. GoesUnsealed e iv now x.flight x.bytes b)) → OnErr r (b ≡ e) → Keeps 0 e b
 send_keeps e b iv now (Ok None) h u = subst (Keeps 0 e) (sym h.1) (keeps_same e)
-send_keeps e b iv now (Ok (Some x)) h u = goes_keeps e iv now x.0 x.1.items b h
+send_keeps e b iv now (Ok (Some x)) h u = unsealed_keeps e iv now x.flight x.bytes b h
 send_keeps e b iv now (Err why) h u = subst (Keeps 0 e) (sym u) (keeps_same e)
 
 pub opened_ok : (e b : EndState) (k : ℕ) → OrWants e (open_stream e) (Ok k, b) → Opened e b k

@@ -1,5 +1,6 @@
 -- What the calls of an end leave of its bytes and totals.
 use Rattle.std.proofs.Common.{◌≡◌, ℕ, zero, suc, ◌+◌, ◌-◌, ◌*◌, ◌<◌, ◌≤◌, map, Bool, true, false, cond, List, [], ◌∷◌, refl, sym, ap, subst, ◌∙◌, arith, Option, None, Some, Result, Ok, Err}
+use Rattle.std.specs.FinMap as fmap
 use Rattle.std.specs.List.{range_with_len}
 use Rattle.st_sender.specs.Sending.{Sending, Outgoing, Flight, outgoing_at, with_outgoing, changed_at, changed}
 use Rattle.st_sender.specs.Accepting.{after_write, after_clean, after_offer}
@@ -9,7 +10,9 @@ use Rattle.st_end.specs.declared.error.EndError.TheVariants as end_errors
 use Rattle.st_end.specs.declared.flight.Open as flights
 use Rattle.st_end.specs.State.{EndState}
 use Rattle.st_end.specs.Calls.{Answer, done, refusal_at, write, close, offer, set_receive_max, own_number, own_numbers, first_free, free_or, connection_refusal, with_stream, opened_unless, opening_as, open_stream}
-use Rattle.st_end.specs.Sending.{Goes}
+use Rattle.st_end.specs.Sending.{Goes, is_kept}
+use Rattle.st_end.specs.Unsealed.{GoesUnsealed, known_if, known}
+use Rattle.st_end.proofs.Plain.{known_same}
 use Rattle.st_end.specs.Answers.{ended_with, ended}
 use Rattle.st_end.specs.Sending.{open_flight}
 use Rattle.st_hub.specs.Keeping.{KeepsSent, Keeps}
@@ -117,6 +120,21 @@ pub goes_keeps : (e : EndState) (iv : List ℕ) (now : _) (flight : flights.Open
 goes_keeps e iv now flight bytes b g =
     let t : KeepsSent e.sending g.sending = subst (KeepsSent e.sending) (sym g.sends.after) (record { width = refl; each = (sent_same e.sending).each; paid = omega arith }) in
     subst (Keeps 0 e) (sym g.after_is) (record { sent = t; read = read_same e.receiving })
+
+-- what is not sealed yet has changed as much, apart from its condition
+pub unsealed_keeps : (e : EndState) (iv : List ℕ) (now : _) (flight : flights.Open) (bytes : List ℕ) (b : EndState) → GoesUnsealed e iv now flight bytes b → Keeps 0 e b
+unsealed_keeps e iv now flight bytes b g = let k = goes_keeps e iv now flight bytes _ g.goes in record { sent = k.sent; read = k.read }
+
+-- what is in flight stays, once a condition is known
+pub known_sending : (e b : EndState) (iv : List ℕ) (f : flights.Open) → b ≡ known e iv f → b.sending ≡ e.sending
+known_sending e b iv f is = ap (λ (x : EndState). x.sending) is ∙ (known_same (is_kept iv (fmap.get e.conditions f.sequence)) e f).0
+
+known_by : (t : Bool) (e : EndState) (f : flights.Open) → Keeps 0 e (known_if t e f)
+known_by true e f = record { sent = sent_same e.sending; read = read_same e.receiving }
+known_by false e f = keeps_same e
+
+pub known_keeps : (e : EndState) (iv : List ℕ) (f : flights.Open) → Keeps 0 e (known e iv f)
+known_keeps e iv f = known_by (is_kept iv (fmap.get e.conditions f.sequence)) e f
 
 ended_by : (e : EndState) (f : flights.Open) (p : Option Flight) (o : Option (List ℕ)) → Keeps 0 e (ended_with e f p o)
 ended_by e f None o = keeps_same e

@@ -5,6 +5,7 @@ use Rattle.std.specs.Prelude.{◌%◌, Vec, IfOk, OnErr, MatchOption}
 use Rattle.std.specs.Option.{option_or}
 use Rattle.std.specs.FinSet.{contains}
 use Rattle.std.proofs.lemmas.Bool.Decides.{nat_tests}
+use Rattle.std.specs.FinMap as fmap
 use Rattle.st_ilp.specs.Packets.{AnswerPacket, PreparePacket, Fulfilled, Rejected}
 use Rattle.st_ilp.specs.Reading.{answer_at, prepare_at}
 use Rattle.st_ilp.specs.declared.error.IlpError.{IlpError}
@@ -33,7 +34,8 @@ use Rattle.st_end.specs.declared.flight.Open as flights
 use Rattle.st_end.specs.declared.received.Received as answered
 use Rattle.st_end.specs.Calls.{Answer, done, write, close, offer, set_receive_max}
 use Rattle.st_end.specs.Reading.{read}
-use Rattle.st_end.specs.Sending.{Goes, GoesNone, open_flight, with_condition}
+use Rattle.st_end.specs.Sending.{Goes, GoesNone, is_kept, open_flight, with_condition}
+use Rattle.st_end.specs.Unsealed.{Launched, GoesUnsealed, known_if, known}
 use Rattle.st_end.specs.Answers.{raised, fits, failure_of, answered_by, outcome_left, after_outcome, ended_with, ended}
 use Rattle.st_end.specs.Receiving.{Received, Verdict, Unread, Rejects, Fulfills, verdict_on, opened_too, all_marked, told, fulfilled, after_verdict, prepare_or_none, received}
 use Rattle.st_end.specs.Seen.{received_seen}
@@ -324,10 +326,20 @@ goes_opens e iv now flight bytes b g =
     let s : AllSent (Was e) g.sending = subst P (sym g.sends.after) (was_sent e) in
     subst (OpensNoOwn e) (sym g.after_is) (opens_by e (with_condition e flight g.sending) s (was_read e))
 
-pub send_opens : {X : Type 0} (e b : EndState) (iv : List ℕ) (now : ℤ) (r : Result (Option (flights.Open × Vec ℕ X)) EndError)
-    → IfOk r (λ s. MatchOption s (GoesNone e × (b ≡ e)) (λ x. Goes e iv now x.0 x.1.items b)) → OnErr r (b ≡ e) → OpensNoOwn e b
+unsealed_opens : (e : EndState) (iv : List ℕ) (now : ℤ) (flight : flights.Open) (bytes : List ℕ) (b : EndState) → GoesUnsealed e iv now flight bytes b → OpensNoOwn e b
+unsealed_opens e iv now flight bytes b g = record { each = (goes_opens e iv now flight bytes _ g.goes).each }
+
+known_by : (t : Bool) (e : EndState) (f : flights.Open) → OpensNoOwn e (known_if t e f)
+known_by true e f = record { each = (same_opens e).each }
+known_by false e f = same_opens e
+
+pub known_opens : (e : EndState) (iv : List ℕ) (f : flights.Open) → OpensNoOwn e (known e iv f)
+known_opens e iv f = known_by (is_kept iv (fmap.get e.conditions f.sequence)) e f
+
+pub send_opens : (e b : EndState) (iv : List ℕ) (now : ℤ) (r : Result (Option Launched) EndError)
+    → IfOk r (λ s. MatchOption s (GoesNone e × (b ≡ e)) (λ x. GoesUnsealed e iv now x.flight x.bytes b)) → OnErr r (b ≡ e) → OpensNoOwn e b
 send_opens e b iv now (Ok None) h u = subst (OpensNoOwn e) (sym h.1) (same_opens e)
-send_opens e b iv now (Ok (Some x)) h u = goes_opens e iv now x.0 x.1.items b h
+send_opens e b iv now (Ok (Some x)) h u = unsealed_opens e iv now x.flight x.bytes b h
 send_opens e b iv now (Err why) h u = subst (OpensNoOwn e) (sym u) (same_opens e)
 
 ended_by : (e : EndState) (f : flights.Open) (p : Option Flight) (o : Option (List ℕ)) → OpensNoOwn e (ended_with e f p o)

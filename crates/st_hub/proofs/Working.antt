@@ -6,7 +6,7 @@ use Rattle.std.proofs.lemmas.List.{map-append, append-nil, length-append}
 use Rattle.std.proofs.lemmas.Grind.{flat_map-append}
 use Rattle.st_links.specs.declared.link.LinkFault.{LinkFault}
 use Rattle.st_end.specs.State.{EndState}
-use Rattle.st_end.specs.Sending.{Goes}
+use Rattle.st_end.specs.Sending.{Goes, with_condition}
 use Rattle.st_sender.specs.Stops.{blocked_at}
 use Rattle.st_hub.specs.Begins.{Begins, Exchanged, FindsSome}
 use Rattle.st_hub.specs.Causes.{Cause, cause_of}
@@ -63,7 +63,7 @@ module _ {K A : Type 0} (reads : K → ℤ → K → Type 0) (c d : K) (spare_iv
       (λ (s : (Sends t ≡ Ends ends.Stopped) × (d ≡ c) × (after ≡ spare_iv)). absurd (false≢true (ap (is_end {A = A}) s.0)))
       (λ (f : (now : ℤ) × reads c now d × FindsSome {A = A} spare_iv stream now (Sends t) after).
       let does = f.2.2.finds.1 in
-      (f.0, f.1, does.0, does.1, (f.2.2.pumped.flow.core, f.2.1.flow.core, does.2, does.4), does.3))
+      (f.0, f.1, does.0, does.1, (f.2.2.pumped.flow.core, with_condition f.2.1.flow.core t.flight f.2.1.flow.core.sending, does.2.goes, does.4), does.3))
       h
 
   pub begun_idle : Begins {K = K} {A = A} reads c spare_iv stream Idle d after → (now : ℤ) × reads c now d × (after ≡ spare_iv)

@@ -12,6 +12,7 @@ use Rattle.st_links.specs.declared.link.LinkFault.{LinkFault}
 use Rattle.st_links.specs.declared.link.LinkFault.TheVariants.{NoMemory}
 
 pub record Sent : Type 0 where
+  pub iv : List ℕ  -- under which its packet is sealed
   pub flight : Open
   pub bytes : List ℕ  -- of the Prepare
   pub stops : Option Blocked  -- the limit of the peer that its Blocked frame reports, if it carries one

@@ -2,6 +2,7 @@
 
 ghost use Rattle.std.specs.Prelude.{◌≡◌, ⊤};
 ghost use Rattle.st_links.specs.Outcomes.{outcome_seen};
+ghost use Rattle.st_end.specs.Unsealed.{known};
 ghost use Rattle.st_hub.specs.Causes.{cause_of, cause_with, end_after};
 ghost use Rattle.st_hub.specs.Hub.{with_core};
 ghost use Rattle.st_hub.specs.Seen.{cause_seen};
@@ -65,7 +66,7 @@ fn last_cause<N: HubName<A>, A: Allocator + Copy>(state: &HubState<N, A>) -> Opt
 
 /// Ends a `Turn`, and returns why it failed, if it did.
 #[tactic(auto, using(crate::proofs::Failing::strange_tells_none, crate::proofs::Failing::paid_tells_none, crate::proofs::Failing::unpaid_tells))]
-pub(crate) fn close_turn<N: HubName<A>, A: Allocator + Copy>(
+fn end_turn<N: HubName<A>, A: Allocator + Copy>(
     state: &mut HubState<N, A>,
     turn: Turn<A>,
     outcome: Outcome<A>,
@@ -77,4 +78,18 @@ pub(crate) fn close_turn<N: HubName<A>, A: Allocator + Copy>(
         Ok(true) | Err(_) => None,
         Ok(false) => last_cause(state),
     }
+}
+
+/// Lets the hub know the condition of a `Turn`, ends it, and returns why it failed, if it did.
+pub(crate) fn close_turn<N: HubName<A>, A: Allocator + Copy>(
+    state: &mut HubState<N, A>,
+    turn: Turn<A>,
+    outcome: Outcome<A>,
+) -> Option<Cause>
+    ensures cause { cause_seen result ≡ cause_of (known state.old.flow.core turn.iv turn.flight) turn.flight (outcome_seen outcome) }
+    ensures ended { state.new
+        ≡ with_core state.old (end_after (known state.old.flow.core turn.iv turn.flight) turn.flight (outcome_seen outcome)) }
+{
+    state.keep_turn(&turn);
+    end_turn(state, turn, outcome)
 }

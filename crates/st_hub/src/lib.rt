@@ -1,8 +1,8 @@
 //! A hub: an end of a connection under one lock, with the rings of its writers and readers.
 //!
 //! `HubState` is the lock's value. Application threads write to and read from the rings and never wait; `pump` moves whole chunks
-//! between the rings and the end. A worker takes a `Turn` under the lock, exchanges its Prepare over a `Link` with the lock open, and
-//! finishes it under the lock again. A `Bench` is the lock with what the workers wait on. Each thread that receives Prepares has a
+//! between the rings and the end. A worker takes a `Turn` under the lock, seals its packet and exchanges its Prepare over a `Link`
+//! with the lock open, and finishes it under the lock again. A `Bench` is the lock with what the workers wait on. Each thread that receives Prepares has a
 //! `CreditShare`. `gather` shows that the sum of all shares is what the end was credited.
 #![tactic(auto)]
 
@@ -18,6 +18,7 @@ mod laws;
 mod pumping;
 mod streams;
 mod turns;
+mod unsealed;
 mod workers;
 
 pub use bench::Bench;
@@ -39,4 +40,5 @@ pub use st_queues::{
 };
 pub use st_sender::Blocked;
 pub use turns::{CreditShare, SHARES, Step, Turn};
+pub use unsealed::UnsealedTurn;
 pub use workers::{Ivs, WorkEnd, Worker, work};

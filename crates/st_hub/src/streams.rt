@@ -4,7 +4,8 @@ ghost use Rattle.std.specs.Prelude.{◌≡◌, ◌≢◌, ◌<◌, ℕ, true, Li
 ghost use Rattle.st_end.specs.Calls as calls;
 ghost use Rattle.st_end.specs.Calls.{OrWants};
 ghost use Rattle.st_end.specs.Sending as sending;
-ghost use Rattle.st_end.specs.Sending.{Goes, GoesNone};
+ghost use Rattle.st_end.specs.Sending.{GoesNone};
+ghost use Rattle.st_end.specs.Unsealed.{GoesUnsealed, known};
 ghost use Rattle.st_end.specs.Answers.{ended, pays};
 ghost use Rattle.st_end.specs.Receiving.{received};
 ghost use Rattle.st_end.specs.Seen.{received_seen};
@@ -24,7 +25,7 @@ use crate::error::HubError;
 use crate::lanes::{ends, first_left};
 use crate::pumping::Pumped;
 use crate::{lanes, pumping};
-use st_end::{EndError, EndState, Flight, Received};
+use st_end::{EndError, EndState, Flight, Received, Unsealed};
 use st_ilp::Moment;
 use st_links::Outcome;
 use st_queues::{HubName, ReadRing, StreamReader, StreamWriter, WriteRing};
@@ -114,20 +115,29 @@ impl<N: HubName<A>, A: Allocator + Copy> Streams<N, A> {
         self.core.set_receive_max(stream, amount)
     }
 
-    /// The end's `send`.
-    pub(crate) fn send(
+    /// The end's `send_unsealed`.
+    pub(crate) fn send_unsealed(
         &mut self,
         iv: [u8; 12],
         now: Moment,
-    ) -> Result<Option<(Flight, Vec<u8, A>)>, EndError>
+    ) -> Result<Option<Unsealed<A>>, EndError>
         ensures only_memory { IsOkUnless result EndError.NoMemory }
         ensures goes { IfOk result (λ sent. MatchOption sent (GoesNone self.old.flow.core × (self.new.flow.core ≡ self.old.flow.core))
-            (λ x. Goes self.old.flow.core iv now x.0 x.1.items self.new.flow.core)) }
+            (λ x. GoesUnsealed self.old.flow.core iv now x.flight x.bytes self.new.flow.core)) }
         ensures unchanged { OnErr result (self.new.flow.core ≡ self.old.flow.core) }
         ensures keeps { Keeps 0 self.old.flow.core self.new.flow.core }
         ensures rest { self.new ≡ with_end self.old self.new.flow.core }
     {
-        self.core.send(iv, now)
+        self.core.send_unsealed(iv, now)
+    }
+
+    /// The end's `keep`.
+    pub(crate) fn keep(&mut self, iv: [u8; 12], flight: &Flight)
+        ensures kept { self.new.flow.core ≡ known self.old.flow.core iv flight.now }
+        ensures keeps { Keeps 0 self.old.flow.core self.new.flow.core }
+        ensures rest { self.new ≡ with_end self.old self.new.flow.core }
+    {
+        self.core.keep(iv, flight)
     }
 
     /// Ends a flight of the end with its outcome, and returns whether that is a Fulfill that fits.

@@ -1,23 +1,24 @@
 //! The calls of a hub for threads that send Prepares, and for those that receive them.
 
-ghost use Rattle.std.specs.Prelude.{◌≡◌, ◌≢◌, ◌+◌, ◌<◌, true, false, not, sum, vec_len, is_some, OnErr, IfOk, IfErr, IfSome, IsOkUnless, MatchBool, MatchOption, pos, ◌+ℤ◌};
+ghost use Rattle.std.specs.Prelude.{◌≡◌, ◌≢◌, ◌+◌, ◌<◌, true, false, not, sum, vec_len, is_some, OnErr, IfOk, IfErr, IfSome, IsOkUnless, MatchBool, MatchOption};
 ghost use Rattle.st_links.specs.Outcomes.{outcome_seen};
-ghost use Rattle.st_ilp.specs.Moments.{IsMoment};
 ghost use Rattle.st_sender.specs.Stops.{blocked_at};
 ghost use Rattle.st_end.specs.Sending as sending;
 ghost use Rattle.st_end.specs.Sending.{Goes, GoesNone};
+ghost use Rattle.st_end.specs.Unsealed.{GoesUnsealed, known};
 ghost use Rattle.st_end.specs.Answers.{ended, pays};
 ghost use Rattle.st_end.specs.Receiving.{received};
 ghost use Rattle.st_end.specs.Seen.{received_seen};
 ghost use Rattle.st_hub.specs.Hub.{with_core};
 ghost use Rattle.st_hub.specs.Stalls.{Does, IsStalled};
-ghost use Rattle.st_hub.specs.Turns.{credited_by, ExpiresAt, IsExpiryOf};
+ghost use Rattle.st_hub.specs.Turns.{credited_by, IsExpiryOf};
 ghost use Rattle.st_hub.specs.declared.error.HubError.TheVariants.{NoShareLeft, Stranger, MissingShare, NoMemory};
 
 use crate::error::HubError;
 use crate::hub::{HubState, publish};
-use st_end::{EndError, EndState, Flight, Received};
-use st_ilp::{Moment, read_prepare};
+use crate::unsealed::{UnsealedTurn, limit_of, turn_at};
+use st_end::{Flight, Received};
+use st_ilp::Moment;
 use st_links::Outcome;
 use st_queues::HubName;
 use st_sender::Blocked;
@@ -29,32 +30,18 @@ use std::sync::ledger::{Ledger, Share};
 /// Prepares.
 pub const SHARES: u64 = 63;
 
-/// For how many milliseconds a Prepare lives, as `EndState::send` makes it.
-const LIFE: i64 = 30_000;
-
-/// The most bytes of a stream that one frame of a Prepare has.
-const FRAME_BYTES: usize = 16_000;
-
-/// The moment at which a Prepare expires that is made now.
-fn after(now: Moment) -> Moment
-    ensures { IsMoment (now +ℤ pos 30000) → result ≡ now +ℤ pos 30000 }
-{
-    match Moment::new(now.ms() + LIFE) {
-        Some(moment) => moment,
-        None => now,
-    }
-}
-
 /// A Prepare that a hub gave out to be sent, and that waits for its answer. It must be spent: by
 /// `HubState::finish_turn`, or by `abandon`.
 #[must_use]
 pub struct Turn<A: Allocator + Copy> {
-    flight: Flight,
-    bytes: Vec<u8, A>,
+    // Under which its packet was sealed.
+    pub(crate) iv: [u8; 12],
+    pub(crate) flight: Flight,
+    pub(crate) bytes: Vec<u8, A>,
     // The moment that the bytes say.
-    expiry: Moment,
+    pub(crate) expiry: Moment,
     // The limit of the peer that its Blocked frame reports.
-    stops: Option<Blocked>,
+    pub(crate) stops: Option<Blocked>,
 }
 
 impl<A: Allocator + Copy> Model for Turn<A> {
@@ -62,40 +49,9 @@ impl<A: Allocator + Copy> Model for Turn<A> {
 
     ghost Value = { Sent };
 
-    ghost view = { λ t. record { flight = t.flight; bytes = t.bytes.items; stops = t.stops } };
+    ghost view = { λ t. record { iv = t.iv; flight = t.flight; bytes = t.bytes.items; stops = t.stops } };
 
     ghost invariant = { λ t. IsExpiryOf t.bytes.items t.expiry };
-}
-
-/// The limit of the peer that the Blocked frame of a sent Prepare reports.
-fn limit_of<A: Allocator + Copy>(
-    core: &EndState<A>,
-    sent: &Result<Option<(Flight, Vec<u8, A>)>, EndError>,
-) -> Option<Blocked>
-    ensures { IfOk sent.now (λ s. IfSome s (λ x. result ≡ blocked_at core.now.sending.flights x.0.sequence)) }
-{
-    match sent {
-        Ok(Some((flight, _bytes))) => core.blocked_at(flight),
-        Ok(None) | Err(_) => None,
-    }
-}
-
-/// The `Turn` of a Prepare that was made at this time.
-fn turn_at<A: Allocator + Copy>(
-    flight: Flight,
-    bytes: Vec<u8, A>,
-    stops: Option<Blocked>,
-    made: Moment,
-) -> Turn<A>
-    requires { ExpiresAt bytes.items (made +ℤ pos 30000) }
-    ensures { (result.flight ≡ flight) × (result.bytes ≡ bytes.items) × (result.stops ≡ stops) }
-{
-    Turn {
-        flight,
-        bytes,
-        expiry: after(made),
-        stops,
-    }
 }
 
 impl<A: Allocator + Copy> Turn<A> {
@@ -122,23 +78,11 @@ impl<A: Allocator + Copy> Turn<A> {
         self.stops
     }
 
-    /// Whether more may be due after it: it pays an amount, or it has the length of a full frame of data. Otherwise it
-    /// carries all that could be sent.
-    pub(crate) fn may_leave_more(&self) -> bool {
-        let bytes = self.bytes.as_slice();
-        if bytes.len() >= FRAME_BYTES {
-            return true;
-        }
-        match read_prepare(bytes) {
-            Ok(prepare) => prepare.amount > 0,
-            Err(_) => false,
-        }
-    }
-
     /// Gives the `Turn` up, if its answer will not be processed. What the Prepare carries stays in flight. Does not
     /// allocate.
     pub fn abandon(self) {
         let Turn {
+            iv: _,
             flight,
             bytes: _,
             expiry: _,
@@ -151,8 +95,8 @@ impl<A: Allocator + Copy> Turn<A> {
 /// The result of one step of a worker.
 #[must_use]
 pub enum Step<A: Allocator + Copy> {
-    /// A Prepare is to be exchanged.
-    Sends(Turn<A>),
+    /// A Prepare is to be sealed and exchanged.
+    Sends(UnsealedTurn<A>),
     /// Nothing can be sent now.
     Idle,
     /// Nothing can be sent any more, unless the peer sends a packet of its own: the limits that the peer set stop all
@@ -196,7 +140,7 @@ impl<N: HubName<A>, A: Allocator + Copy> HubState<N, A> {
 
     /// Returns the next Prepare that is to be sent at the time `now`, sealed under `iv`, as `EndState::send` makes it.
     /// Returns `None` if nothing can be sent now. No IV may be used for two packets of a connection (SP 800-38D): the
-    /// caller sees to that.
+    /// caller sees to that. It is `take_unsealed`, `UnsealedTurn::seal` and `keep_turn`.
     ///
     /// Fails with `NoMemory` if memory is refused, and for no other reason; then nothing has changed.
     pub fn take_turn(&mut self, iv: [u8; 12], now: Moment) -> Result<Option<Turn<A>>, HubError>
@@ -207,24 +151,65 @@ impl<N: HubName<A>, A: Allocator + Copy> HubState<N, A> {
         ensures unchanged { OnErr result (self.new.flow.core ≡ self.old.flow.core) }
         ensures rest { self.new ≡ with_core self.old self.new.flow.core }
     {
+        let Some(unsealed) = self.take_unsealed(iv, now)? else {
+            return Ok(None);
+        };
+        let turn = unsealed.seal();
+        self.keep_turn(&turn);
+        Ok(Some(turn))
+    }
+
+    /// The first part of `take_turn`, which leaves the sealing to `UnsealedTurn::seal`. No lock is needed for that. Until
+    /// `keep_turn` is called, the `Turn` is not open here.
+    ///
+    /// `None`, and failure, as of `take_turn`.
+    pub fn take_unsealed(
+        &mut self,
+        iv: [u8; 12],
+        now: Moment,
+    ) -> Result<Option<UnsealedTurn<A>>, HubError>
+        ensures only_memory { IsOkUnless result NoMemory }
+        ensures goes { IfOk result (λ sent. MatchOption sent (GoesNone self.old.flow.core × (self.new.flow.core ≡ self.old.flow.core))
+            (λ t. GoesUnsealed self.old.flow.core iv now t.flight t.bytes self.new.flow.core)) }
+        ensures stops { IfOk result (λ sent. IfSome sent (λ t. t.stops ≡ blocked_at self.new.flow.core.sending.flights t.flight.sequence)) }
+        ensures iv { IfOk result (λ sent. IfSome sent (λ t. t.iv ≡ iv)) }
+        ensures unchanged { OnErr result (self.new.flow.core ≡ self.old.flow.core) }
+        ensures rest { self.new ≡ with_core self.old self.new.flow.core }
+    {
         let HubState {
             streams,
             gauge,
             seat,
             ..
         } = self;
-        let sent = streams.send(iv, now);
+        let sent = streams.send_unsealed(iv, now);
         let stops = limit_of(streams.core(), &sent);
         publish(gauge, seat, streams);
         match sent {
-            Ok(Some((flight, bytes))) => Ok(Some(turn_at(flight, bytes, stops, now))),
+            Ok(Some(unsealed)) => Ok(Some(turn_at(iv, unsealed, stops, now))),
             Ok(None) => Ok(None),
             Err(_) => Err(HubError::NoMemory),
         }
     }
 
+    /// Lets the hub know the condition of a `Turn` that `take_unsealed` gave and that is sealed now. It is then open here, and
+    /// `finish_turn` can end it. If the hub waits for no such condition, nothing changes. Does not allocate.
+    pub fn keep_turn(&mut self, turn: &Turn<A>)
+        ensures kept { self.new.flow.core ≡ known self.old.flow.core turn.now.iv turn.now.flight }
+        ensures rest { self.new ≡ with_core self.old self.new.flow.core }
+    {
+        let HubState {
+            streams,
+            gauge,
+            seat,
+            ..
+        } = self;
+        streams.keep(turn.iv, &turn.flight);
+        publish(gauge, seat, streams);
+    }
+
     /// Whether nothing can be sent any more of a stream, unless the peer sends a packet of its own. It is to be called
-    /// when `take_turn` gave `None`. Does not allocate.
+    /// when `take_unsealed` gave `None`. Does not allocate.
     fn is_stalled(&self, stream: u8) -> bool
         requires { GoesNone self.now.flow.core }
         ensures { MatchBool result (IsStalled self.now.flow.core stream) (¬ (IsStalled self.now.flow.core stream)) }
@@ -233,7 +218,7 @@ impl<N: HubName<A>, A: Allocator + Copy> HubState<N, A> {
         core.in_flight() == 0 && core.waits(stream)
     }
 
-    /// Makes one step of a worker at the time `now`. It returns the next Prepare as `take_turn` does, under the IV in
+    /// Makes one step of a worker at the time `now`. It returns the next Prepare as `take_unsealed` does, under the IV in
     /// `spare_iv`, which is to be there; that IV is then used up, and `spare_iv` is `None`. If nothing can be sent, `spare_iv`
     /// keeps its IV, and the step is `Stalled` exactly if nothing is in flight and `stream` still waits: bytes that it
     /// accepted are not acknowledged, or its close is not fulfilled. `stream` 0 never waits.
@@ -254,7 +239,7 @@ impl<N: HubName<A>, A: Allocator + Copy> HubState<N, A> {
         let Some(iv) = *spare_iv else {
             unreachable!();
         };
-        match self.take_turn(iv, now) {
+        match self.take_unsealed(iv, now) {
             Ok(Some(turn)) => {
                 *spare_iv = None;
                 Ok(Step::Sends(turn))
@@ -283,6 +268,7 @@ impl<N: HubName<A>, A: Allocator + Copy> HubState<N, A> {
         ensures rest { self.new ≡ with_core self.old self.new.flow.core }
     {
         let Turn {
+            iv: _,
             flight,
             bytes: _,
             expiry: _,

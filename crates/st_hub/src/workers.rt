@@ -15,6 +15,7 @@ use crate::causes::{Cause, Observer, close_turn};
 use crate::gate::is_temporary;
 use crate::hub::HubState;
 use crate::turns::{Step, Turn};
+use crate::unsealed::UnsealedTurn;
 use st_devices::Counted;
 use st_ilp::Moment;
 use st_links::{Clock, Link, Outcome};
@@ -79,7 +80,7 @@ pub struct Worker<'w, N: HubName<A>, A: Allocator + Copy, L, I, K, W> {
 
 /// What a worker found to do.
 enum Begun<A: Allocator + Copy> {
-    Sends(Turn<A>),
+    Sends(UnsealedTurn<A>),
     Idle,
     Ends(WorkEnd),
 }
@@ -237,7 +238,7 @@ fn tell<W: Observer>(watch: &mut W, cause: Option<Cause>)
 }
 
 /// Reports the limit of the peer at which the end waits, if the Prepare of a `Turn` says that it does.
-fn tell_limit<A: Allocator + Copy, W: Observer>(watch: &mut W, turn: &Turn<A>)
+fn tell_limit<A: Allocator + Copy, W: Observer>(watch: &mut W, turn: &UnsealedTurn<A>)
     ensures { Gave W.hears watch.old (waits_of turn.now.stops) watch.new }
 {
     if let Some(blocked) = turn.blocked_at() {
@@ -297,8 +298,9 @@ fn make_turns<
             return WorkEnd::IvFault;
         }
         match begin(rt, bench, gauge, seat, &mut spare_iv, stream, clock, rest) {
-            Begun::Sends(turn) => {
-                tell_limit(watch, &turn);
+            Begun::Sends(unsealed) => {
+                tell_limit(watch, &unsealed);
+                let turn = unsealed.seal();
                 let outcome = exchange(link, &turn);
                 let cause = finish(rt, bench, turn, outcome);
                 tell(watch, cause);
@@ -311,7 +313,7 @@ fn make_turns<
 }
 
 /// Sends for a hub over the worker's link, and returns why it ended. In one round it calls `pump` and `step` under the lock,
-/// exchanges the Prepare with the lock open, and calls `finish_turn` under the lock again. A `Turn` that is no longer open then
+/// seals and exchanges the Prepare with the lock open, and calls `keep_turn` and `finish_turn` under the lock again. A `Turn` that is no longer open then
 /// changes nothing. With the lock open it reports to its observer if the Prepare carries a Blocked frame, and if it failed.
 /// After a round with nothing to send it sleeps, until somebody wakes it (`Bench`) or its rest is over.
 ///

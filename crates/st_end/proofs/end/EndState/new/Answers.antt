@@ -6,4 +6,4 @@ use Rattle.st_end.proofs.end.EndState.new.Goals as goal
 
 pub invariant_of-result : goal.invariant_of-result
 invariant_of-result g c =
-    (lawful_when_new _ c.args.config _ c.new-3.ensures (ap is_address c.in_ok-own.ensures.ok ∙ c.requires.own) (ap is_address c.in_ok-peer.ensures.ok ∙ c.requires.peer) c.in-Ok.ensures.opening c.in-Ok-new.ensures.empty, c.in_ok-t00.ensures.text ∙ ap t00_text (sym c.in_ok-own.ensures.ok))
+    (lawful_when_new _ c.args.config _ c.new-4.ensures (ap is_address c.in_ok-own.ensures.ok ∙ c.requires.own) (ap is_address c.in_ok-peer.ensures.ok ∙ c.requires.peer) c.in-Ok-new.ensures.opening c.in-Ok-new-2.ensures.empty, c.in_ok-t00.ensures.text ∙ ap t00_text (sym c.in_ok-own.ensures.ok))

@@ -1,0 +1,30 @@
+use Rattle.std.proofs.Common.{ap, sym, subst, ◌∙◌, rules}
+use Rattle.std.specs.Arc.{arc_value}
+use Rattle.std.specs.FinMap as map
+use Rattle.st_end.specs.Unsealed.{Launched, launched}
+use Rattle.st_end.specs.Inside.{IsSpelled}
+use Rattle.st_end.proofs.Plain.{spelled}
+use Rattle.st_end.proofs.send.launch.Goals as goal
+
+pub new-requires-clause-front : goal.new-requires-clause-front
+new-requires-clause-front g c = c.in_ok-plain.ensures.plain.front
+
+pub new-requires-clause-back : goal.new-requires-clause-back
+new-requires-clause-back g c = c.in_ok-plain.ensures.plain.back
+
+pub returns-clause-spelled : goal.returns-clause-spelled
+returns-clause-spelled g c =
+    let bytes = c.in_ok-plain.plain.bytes.items in
+    let at = c.in_ok-plain.plain.condition_at in
+    let behind = c.in_ok-plain.plain.payload_at in
+    let sequence = c.args.load.now.sequence in
+    let keys = arc_value c.args.keys.now in
+    let is = c.new.ensures ∙ ap (λ k. launched k c.args.iv c.sequence-2.result bytes at behind) c.in_ok-keys.ensures ∙ ap (λ n. launched keys c.args.iv n bytes at behind) c.sequence-2.ensures in
+    subst (λ (x : Launched). IsSpelled keys c.args.peer.now c.args.iv c.args.now c.args.load.now x.flight x.bytes) (sym is) (spelled keys c.args.peer.now c.args.iv c.args.now c.args.load.now bytes at behind (search rules) c.in_ok-plain.ensures.plain)
+
+pub returns-clause-booked : goal.returns-clause-booked
+unfolding launched
+returns-clause-booked g c =
+    c.in_ok-insert.ensures.kept
+    ∙ ap (λ n. map.insert c.args.conditions.now n c.args.iv) (c.sequence.ensures ∙ sym c.sequence-2.ensures)
+    ∙ ap (λ (x : Launched). map.insert c.args.conditions.now x.flight.sequence c.args.iv) (sym c.new.ensures)

@@ -1,0 +1,14 @@
+use Rattle.std.proofs.Common.{subst, sym}
+use Rattle.st_queues.specs.Watching.{IsUpTo}
+use Rattle.st_hub.specs.Hub.{shown_of}
+use Rattle.st_hub.proofs.Expiries.{goes_expires}
+use Rattle.st_hub.proofs.Totals.{totals_rise, keeps_rises}
+use Rattle.st_hub.proofs.hub.HubState.take_unsealed.Goals as goal
+
+pub publish-requires : goal.publish-requires
+publish-requires g c = subst (λ t. IsUpTo t (shown_of c.send_unsealed-sent.new.self.flow.core)) (sym c.self.invariant.0) (totals_rise _ _ (keeps_rises 0 _ _ c.send_unsealed-sent.ensures.keeps))
+
+pub turn_at-requires : goal.turn_at-requires
+turn_at-requires g c =
+    let sent = rw c.in-Ok-Some.is at c.send_unsealed-sent.ensures.goes in
+    goes_expires _ _ _ _ _ _ (rw c.in-Ok-Some.field-0-is at sent).goes
