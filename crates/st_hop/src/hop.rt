@@ -1,35 +1,29 @@
 //! The state of a hop: accounts, routes and pending Prepares.
 
-ghost use Rattle.std.specs.Prelude.{◌≡◌, ◌<◌, ◌≤◌, ◌≤ℤ◌, pos, ◌+◌, ◌^◌, [], false, length, map, sum, IfOk, IfErr, OnErr, IsErrOf, IsTrue, IsOkUnless, ◌↔◌, nat_lt, slice_index, if◌then◌else◌, None, MatchBool};
+ghost use Rattle.std.specs.Prelude.{◌≡◌, ◌<◌, ◌≤◌, ◌≤ℤ◌, pos, ◌+◌, ◌^◌, false, length, map, sum, IfOk, IfErr, OnErr, IsErrOf, IsTrue, IsOkUnless, ◌↔◌, nat_lt, slice_index, if◌then◌else◌, None, MatchBool};
 ghost use Rattle.st_oer.specs.Ratios.{exchanged};
 ghost use Rattle.st_ilp.specs.Writing.{prepare_refusal};
 ghost use Rattle.st_ilp.specs.Seen.{prepare_seen};
-ghost use Rattle.st_hop.specs.Refusals.{reject_text, payload_of, t00_text};
-ghost use Rattle.st_hop.specs.Inside.{Serves};
+ghost use Rattle.st_hop.specs.Refusals.{reject_text, t00_text};
 ghost use Rattle.st_hop.specs.Books.{WhyNotRestored, restored};
-ghost use Rattle.st_hop.specs.Hop.{held_of, is_over_limit, last_next, holding, released, booked, restarted};
+ghost use Rattle.st_hop.specs.Hop.{held_of, is_over_limit, last_next, holding, restarted};
 ghost use Rattle.st_hop.specs.Tickets.{IsAmong};
 ghost use Rattle.st_hop.specs.Arriving.{Answers, judged, arrived, sent_on, ticket_for, onward};
-ghost use Rattle.st_ilp.specs.Reading.{is_fulfill_text};
-ghost use Rattle.st_hop.specs.Settling.{settled, claim_of, due_of, is_booked};
 ghost use Rattle.st_hop.specs.Table.{is_table, new_hop, RefusesBadTable};
 ghost use Rattle.st_hop.specs.Lawful.{IsLawful};
-ghost use Rattle.st_links.specs.Outcomes.{outcome_seen};
 ghost use Rattle.st_hop.specs.Seen.{way_seen, verdict_seen, IsReady, GoesAcross};
 
-use crate::account::{Account, lower, raise, zeros};
+use crate::account::{Account, raise, zeros};
 use crate::books::totals_of;
 use crate::error::HopError;
 use crate::refusal::Refusal;
 use crate::room::{Room, reject};
 use crate::route::{NextHop, Route, Routes};
-use crate::settling::{Closing, conclude};
 use crate::table::{MAX_SUM, routes_of};
 use crate::ticket::{Open, Ticket};
 use crate::verdict::Verdict;
 use crate::waiting::{Waiting, is_waiting};
-use st_ilp::{IlpError, Moment, Prepare, answer_law, read_prepare, write_prepare};
-use st_links::Outcome;
+use st_ilp::{IlpError, Moment, Prepare, read_prepare, write_prepare};
 use st_oer::Rate;
 use std::alloc::Allocator;
 use std::collections::BTreeMap;
@@ -41,20 +35,20 @@ const HOP_TIME: i64 = 1000;
 /// The state of a hop: the claims and dues of its accounts, and the Prepares that wait for their answer.
 #[derive(Drop)]
 pub struct HopState<A: Allocator + Copy> {
-    own: String<A>,
+    pub(crate) own: String<A>,
     accounts: Vec<Account, A>,
     routes: Routes<A>,
-    claims: Vec<u64, A>,
-    dues: Vec<u64, A>,
-    waiting: BTreeMap<u64, Waiting<A>, A>,
+    pub(crate) claims: Vec<u64, A>,
+    pub(crate) dues: Vec<u64, A>,
+    pub(crate) waiting: BTreeMap<u64, Waiting<A>, A>,
     next: u64,
     // What the open tickets hold, by account.
-    held: Vec<u64, A>,
+    pub(crate) held: Vec<u64, A>,
     // Sums over all accounts, of what is booked and of that with what the open tickets add. Each is below 2^63.
-    all_claims: u64,
-    all_dues: u64,
-    claimed: u64,
-    due: u64,
+    pub(crate) all_claims: u64,
+    pub(crate) all_dues: u64,
+    pub(crate) claimed: u64,
+    pub(crate) due: u64,
     t00: Vec<u8, A>,
     alloc: A,
 }
@@ -387,79 +381,6 @@ impl<A: Allocator + Copy> HopState<A> {
         match self.judge(account, &prepare, now) {
             Ok(next) => self.forward(account, next, &prepare),
             Err(refusal) => self.refuse(refusal),
-        }
-    }
-
-    /// Releases the reserved amount of an open ticket, and books nothing. Gives the memory for the hop's own Reject.
-    fn release(&mut self, ticket: Open) -> Room<A>
-        requires { IsAmong self.old.tickets ticket }
-        ensures state { self.new ≡ released self.old ticket }
-        ensures room { Serves self.old.own result }
-        ensures lawful { IsLawful self.old }
-    {
-        let Waiting { ticket: _, room } = self.waiting.remove(&ticket.number).unwrap();
-        lower(&mut self.held, ticket.incoming, ticket.amount_in);
-        self.claimed -= ticket.amount_in;
-        self.due -= ticket.amount_out;
-        room
-    }
-
-    /// Releases the reserved amount of an open ticket, and books its claim and its due.
-    fn book(&mut self, ticket: Open)
-        requires { IsAmong self.old.tickets ticket }
-        ensures state { self.new ≡ booked self.old ticket }
-        ensures claims { sum self.new.claims ≡ sum self.old.claims + ticket.amount_in }
-        ensures dues { sum self.new.dues ≡ sum self.old.dues + ticket.amount_out }
-    {
-        self.release(ticket);
-        raise(&mut self.claims, ticket.incoming, ticket.amount_in);
-        raise(&mut self.dues, ticket.outgoing, ticket.amount_out);
-        self.all_claims += ticket.amount_in;
-        self.all_dues += ticket.amount_out;
-        self.claimed += ticket.amount_in;
-        self.due += ticket.amount_out;
-    }
-
-    /// Releases the reserved amount of an open ticket, and gives the hop's own Reject.
-    fn release_with(&mut self, ticket: Open, refusal: Refusal) -> Vec<u8, A>
-        requires open_one { IsAmong self.old.tickets ticket }
-        requires plain { payload_of refusal ≡ [] }
-        ensures state { self.new ≡ released self.old ticket }
-        ensures text { result.items ≡ reject_text self.old.own refusal }
-        ensures fails { is_fulfill_text result.items ≡ false }
-    {
-        let room = self.release(ticket);
-        answer_law();
-        room.write(self.own.as_str(), refusal)
-    }
-
-    /// Settles a ticket with the outcome of its Prepare, `now` being the current time (RFC 0027). Gives the bytes that
-    /// answer the Prepare. Does not allocate.
-    ///
-    /// The claim and the due are booked exactly if a Fulfill that fits the condition arrived before the forwarded
-    /// Prepare expired. Exactly then the answer is a Fulfill. The reserved amount is released in every case. Requires
-    /// that the ticket is open at this hop, as `is_open` checks.
-    pub fn settle(&mut self, ticket: Ticket, outcome: Outcome<A>, now: Moment) -> Vec<u8, A>
-        requires { IsAmong self.old.tickets ticket }
-        ensures settled { settled self.old ticket (outcome_seen outcome) now ≡ (result.items, self.new) }
-        ensures claims { sum self.new.claims ≡ sum self.old.claims + claim_of ticket (outcome_seen outcome) now }
-        ensures dues { sum self.new.dues ≡ sum self.old.dues + due_of ticket (outcome_seen outcome) now }
-        ensures fulfills { is_fulfill_text result.items ≡ is_booked ticket (outcome_seen outcome) now }
-    {
-        let ticket = ticket.spend();
-        match outcome {
-            Outcome::Fault => self.release_with(ticket, Refusal::PeerUnreachable),
-            Outcome::Answered(bytes) => match conclude(&ticket, &bytes, now) {
-                Ok(Closing::Booked) => {
-                    self.book(ticket);
-                    bytes
-                }
-                Ok(Closing::PassedOn) => {
-                    self.release(ticket);
-                    bytes
-                }
-                Err(refusal) => self.release_with(ticket, refusal),
-            },
         }
     }
 

@@ -29,6 +29,8 @@ fn sure_at(rt: &impl Abort, holds: bool, fact: &str, n: u64) {
 }
 
 #[cfg(test)]
+mod both_ends;
+#[cfg(test)]
 mod devices;
 #[cfg(test)]
 mod examples;

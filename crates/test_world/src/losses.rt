@@ -1,5 +1,5 @@
 //! Runs in which one end alone sends, one Prepare at a time, and some Sends are lost: how many Sends they take, what is
-//! delivered, and what is credited. And runs in which both ends send.
+//! delivered, and what is credited.
 
 use crate::lossy::{Input, Met, Numbers, PACKET_LIMIT, Passage, begin, read_all, step, world};
 use st_ilp::Moment;
@@ -14,9 +14,9 @@ const SIZES: [usize; 6] = [0, 1, 16_000, 16_001, 33_000, 50_000];
 
 /// What was seen of a run.
 #[derive(Clone, Copy, Debug, PartialEq, Eq)]
-struct Seen {
-    sends: u64,
-    losses: u64,
+pub(crate) struct Seen {
+    pub(crate) sends: u64,
+    pub(crate) losses: u64,
     lost_answers: u64,
     paid: u64,
     credited: u64,
@@ -25,7 +25,7 @@ struct Seen {
 }
 
 impl Seen {
-    const NOTHING: Seen = Seen {
+    pub(crate) const NOTHING: Seen = Seen {
         sends: 0,
         losses: 0,
         lost_answers: 0,
@@ -34,7 +34,7 @@ impl Seen {
         whole: 0,
     };
 
-    fn note(&mut self, fate: Fate) {
+    pub(crate) fn note(&mut self, fate: Fate) {
         let is_lost = !matches!(fate, Fate::Delivered);
         let is_answered = matches!(fate, Fate::AnswerLost(_));
         self.sends = self.sends.saturating_add(1);
@@ -109,7 +109,7 @@ fn is_whole(trace: &Trace<Global>, side: Side, stream: u8, input: &[u8]) -> bool
 }
 
 /// The first `count` bytes of a text.
-fn front(bytes: &[u8], count: usize) -> &[u8] {
+pub(crate) fn front(bytes: &[u8], count: usize) -> &[u8] {
     match bytes.get(0..count) {
         Some(front) => front,
         None => bytes,
@@ -189,7 +189,7 @@ fn play(rt: &impl Abort, alloc: Global, plan: &Plan, numbers: &mut Numbers, byte
     }
 }
 
-fn bytes(rt: &impl Abort, alloc: Global) -> Vec<u8> {
+pub(crate) fn bytes(rt: &impl Abort, alloc: Global) -> Vec<u8> {
     let mut bytes = Vec::new(alloc);
     for place in 0..50_000_usize {
         sure!(rt; bytes.push((place % 251) as u8).is_ok());
@@ -350,106 +350,4 @@ fn a_lost_answer_needs_room(rt: HostRuntime) {
     sure!(&rt; (wide.sends, wide.paid, wide.credited, wide.whole) == (3, 100, 200, 1));
     let tight = lose_the_first(&rt, rt.alloc(), 100);
     sure!(&rt; (tight.sends, tight.paid, tight.credited, tight.whole) == (4, 0, 100, 0));
-}
-
-/// One of two ends that both send.
-#[derive(Clone, Copy)]
-struct Sender {
-    side: Side,
-    stream: u8,
-    passage: Passage,
-    seen: Seen,
-    /// How many Sends it takes without losses.
-    work: u64,
-    is_flying: bool,
-    is_done: bool,
-}
-
-impl Sender {
-    fn begin(
-        rt: &impl Abort,
-        world: &mut World<Global>,
-        side: Side,
-        numbers: &mut Numbers,
-        bytes: &[u8],
-    ) -> Sender {
-        let (money, size) = (numbers.below(400), numbers.below(50_000) as usize);
-        let (stream, way) = match side {
-            Side::Client => (1, Way::ToServer),
-            Side::Server => (2, Way::ToClient),
-        };
-        let input = Input {
-            stream,
-            bytes: front(bytes, size),
-            money,
-            receive_max: money.saturating_add(1_000),
-        };
-        begin(rt, world, side, &input);
-        Sender {
-            side,
-            stream,
-            passage: Passage::new(rt, way, 0),
-            seen: Seen::NOTHING,
-            work: (size as u64)
-                .div_ceil(16_000)
-                .max(money.div_ceil(PACKET_LIMIT))
-                .saturating_add(1),
-            is_flying: false,
-            is_done: false,
-        }
-    }
-
-    /// Sends a Prepare, or meets the fate of the one that flies.
-    fn goes_on(&mut self, rt: &impl Abort, world: &mut World<Global>, numbers: &mut Numbers) {
-        if !self.is_flying {
-            self.is_flying = self.passage.sends(rt, world, self.side);
-            self.is_done = !self.is_flying;
-            return;
-        }
-        let fate = match numbers.below(4) {
-            0 if self.seen.losses < 8 => Fate::PrepareLost(0),
-            1 if self.seen.losses < 8 => Fate::AnswerLost(0),
-            _ => Fate::Delivered,
-        };
-        self.passage.meets(rt, world, fate);
-        self.seen.note(fate);
-        self.is_flying = false;
-        read_all(rt, world, crate::player::other(self.side));
-    }
-
-    fn is_bounded(&self) -> bool {
-        self.seen.sends <= self.work.saturating_add(self.seen.losses)
-    }
-}
-
-/// Both ends send a stream each, in random order, with losses. Whether each took at most its own work and its own losses,
-/// and each stream arrived intact.
-fn both_send(rt: &impl Abort, alloc: Global, numbers: &mut Numbers, bytes: &[u8]) -> bool {
-    let mut world = world(rt, alloc, 0);
-    let mut client = Sender::begin(rt, &mut world, Side::Client, numbers, bytes);
-    let mut server = Sender::begin(rt, &mut world, Side::Server, numbers, bytes);
-    for _ in 0..10_000 {
-        if client.is_done && server.is_done {
-            break;
-        }
-        if numbers.below(2) == 0 {
-            client.goes_on(rt, &mut world, numbers);
-        } else {
-            server.goes_on(rt, &mut world, numbers);
-        }
-    }
-    let ends = [(Side::Client, 1), (Side::Server, 2)];
-    let are_told = ends.iter().all(|(side, stream)| match world.trace().ledger(*side, *stream) {
-        Some(ledger) => ledger.read() == ledger.written() && ledger.saw_end(),
-        None => false,
-    });
-    are_told && client.is_bounded() && server.is_bounded()
-}
-
-#[test]
-fn both_ends_send(rt: HostRuntime) {
-    let (bytes, mut numbers) = (bytes(&rt, rt.alloc()), Numbers::of(5));
-    for n in 0..30 {
-        sure!(&rt; both_send(&rt, rt.alloc(), &mut numbers, &bytes), n);
-    }
 }
