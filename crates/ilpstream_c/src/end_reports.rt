@@ -220,9 +220,13 @@ fn host_failure(failed: &Failed) -> HostFailure
 {
     let by = failed.by();
     let message = failed.message();
+    let code = match failed.code() {
+        Some(code) => code.text(),
+        None => [0; 3],
+    };
     HostFailure {
         kind: kind_number(failed.kind()),
-        code: failed.code().unwrap_or([0; 3]),
+        code,
         by_len: by.len(),
         message_len: message.len(),
         by: at_front(by),

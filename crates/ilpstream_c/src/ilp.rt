@@ -115,7 +115,7 @@ fn answer_in(bytes: &[u8]) -> Result<HostAnswer, IlpError>
             by,
             message,
             payload,
-        } => Ok(reject_told(bytes, code, by, message, payload)),
+        } => Ok(reject_told(bytes, code.text(), by, message, payload)),
     }
 }
 
@@ -232,6 +232,7 @@ pub extern "C" fn ilp_fulfill_write(
 /// Writes an ILP Reject (RFC 0027) to the front of a buffer. It returns 0; 103 if the buffer is too small; 102 if `by` or the
 /// message is not UTF-8; otherwise the number of the refusal: 13, 14, 16 or 18. After 0 and 103 `len` is the length of the
 /// Reject. A refusal leaves the buffer as it was.
+#[tactic(auto, unfolding(st_ilp::specs::Writing::answer_refusal))]
 #[unsafe(no_mangle)]
 pub extern "C" fn ilp_reject_write(
     alloc: Global,
@@ -250,11 +251,9 @@ pub extern "C" fn ilp_reject_write(
     let Some(message) = utf8(message) else {
         return ARGUMENT;
     };
-    let answer = Answer::Reject {
-        code: *code,
-        by,
-        message,
-        payload,
+    let answer = match Answer::reject(*code, by, message, payload) {
+        Ok(answer) => answer,
+        Err(error) => return u32::from(error.number()),
     };
     match write_answer(alloc, &answer) {
         Ok(text) => copy_out(&text, out, len),

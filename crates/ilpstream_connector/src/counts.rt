@@ -114,10 +114,12 @@ fn rejected_as(came: Came, code: [u8; 3]) -> Fate
 fn fate_of(came: Came, answer: &[u8]) -> Option<Fate>
     ensures { result ≡ spec.fate_of came (answer_at answer.now) }
 {
-    match read_answer(answer) {
-        Ok(Answer::Fulfill { .. }) => Some(Fate::Fulfilled),
-        Ok(Answer::Reject { code, .. }) => Some(rejected_as(came, code)),
-        Err(_) => None,
+    let Ok(answer) = read_answer(answer) else {
+        return None;
+    };
+    match answer {
+        Answer::Fulfill { .. } => Some(Fate::Fulfilled),
+        Answer::Reject { code, .. } => Some(rejected_as(came, code.text())),
     }
 }
 

@@ -8,7 +8,7 @@ use ilpstream_serving::{HttpLink, Latest, Log, cause_in, cause_of, tell};
 use st_devices::Counted;
 use st_end::{Failed, FailedKind};
 use st_hub::Observer;
-use st_ilp::Moment;
+use st_ilp::{ErrorCode, Moment};
 use st_links::{Link, LinkFault};
 use std::alloc::Global;
 use std::net::Net;
@@ -75,9 +75,6 @@ impl<R: Net + Clock> Link<Global> for ToldLink<'_, R> {
     }
 }
 
-/// The code of a Reject by which a packet was too large for a node (RFC 0027).
-const TOO_LARGE: [u8; 3] = *b"F08";
-
 /// The event of a Prepare that failed, if only the end knows of it: a Fulfill that does not fit, and a new packet limit.
 fn event_of(failed: &Failed, limit: u64) -> Option<Event<'static>>
     ensures { result ≡ end_told failed.now limit }
@@ -85,7 +82,7 @@ fn event_of(failed: &Failed, limit: u64) -> Option<Event<'static>>
     match failed.kind() {
         FailedKind::Unfit => Some(Event::Exchange(Cause::Unfit)),
         FailedKind::Rejected => match failed.code() {
-            Some(code) if code == TOO_LARGE => Some(Event::Limit { most: limit }),
+            Some(code) if code == ErrorCode::AMOUNT_TOO_LARGE => Some(Event::Limit { most: limit }),
             _ => None,
         },
         FailedKind::Lost | FailedKind::Unreadable => None,

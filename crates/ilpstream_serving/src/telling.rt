@@ -64,12 +64,15 @@ pub fn refusal_of(answer: &[u8], reason: u8) -> Option<Refusal>
     if reason == 0 {
         return None;
     }
-    match read_answer(answer) {
-        Ok(Answer::Reject { code, .. }) => Some(Refusal {
-            code,
+    let Ok(answer) = read_answer(answer) else {
+        return None;
+    };
+    match answer {
+        Answer::Reject { code, .. } => Some(Refusal {
+            code: code.text(),
             reason: Some(reason),
         }),
-        _ => None,
+        Answer::Fulfill { .. } => None,
     }
 }
 
@@ -127,17 +130,21 @@ fn tell_fault<R: Clock>(rt: &R, log: Log<'_>, neighbour: usize, cause: Option<Li
 
 /// Why an exchange with this answer brought no Fulfill. `None` if it did.
 pub fn cause_in(answer: &[u8]) -> Option<Cause<'_>> {
-    match read_answer(answer) {
-        Ok(Answer::Fulfill { .. }) => None,
-        Ok(
-            Answer::Reject {
-                code,
-                by,
-                message,
-                ..
-            },
-        ) => Some(Cause::Reject { code, by, message }),
-        Err(_) => Some(Cause::Unreadable),
+    let Ok(answer) = read_answer(answer) else {
+        return Some(Cause::Unreadable);
+    };
+    match answer {
+        Answer::Fulfill { .. } => None,
+        Answer::Reject {
+            code,
+            by,
+            message,
+            ..
+        } => Some(Cause::Reject {
+            code: code.text(),
+            by,
+            message,
+        }),
     }
 }
 
@@ -180,7 +187,11 @@ pub(crate) fn tell_refusal<R: Clock>(
     answer: &[u8],
     reason: Option<u8>,
 ) {
-    if let Ok(Answer::Reject { code, .. }) = read_answer(answer) {
+    let Ok(answer) = read_answer(answer) else {
+        return;
+    };
+    if let Answer::Reject { code, .. } = answer {
+        let code = code.text();
         tell(rt, log, neighbour, &Event::Refused { code, reason });
     }
 }

@@ -14,6 +14,7 @@ use crate::end::EndState;
 use crate::failed::Failed;
 use crate::flight::{Flight, Open};
 use crate::reply::{FULFILL, REJECT};
+use st_ilp::ErrorCode;
 use st_keys::{Keys, condition};
 use st_sender::Outbox;
 use std::alloc::Allocator;
@@ -25,16 +26,16 @@ const TEMPORARY: [u8; 3] = *b"T00";
 fn take_reject<A: Allocator + Copy>(
     outbox: &mut Outbox<A>,
     sequence: u64,
-    code: [u8; 3],
+    code: ErrorCode,
     payload: &[u8],
 )
     ensures { (p : sender.Flight) → flight_at outbox.old.flights sequence ≡ Some p
         → outbox.new ≡ after_failed outbox.old p (answers.failure_of code payload.now) }
 {
-    if code == *b"F08" {
+    if code == ErrorCode::AMOUNT_TOO_LARGE {
         outbox.too_large(sequence, amounts_in(payload));
     } else {
-        outbox.failed(sequence, code);
+        outbox.failed(sequence, code.text());
     }
 }
 

@@ -9,7 +9,7 @@ ghost use Rattle.st_end.specs.Answers as answers;
 ghost use Rattle.st_end.specs.Inside.{IsBack};
 
 use st_frames::Frames;
-use st_ilp::{Answer, answer_law, read_answer};
+use st_ilp::{Answer, ErrorCode, answer_law, read_answer};
 use st_keys::Keys;
 use st_oer::Cut;
 use st_sender::Outbox;
@@ -25,7 +25,7 @@ pub(crate) enum Back<'a> {
     },
     /// A Reject.
     Reject {
-        code: [u8; 3],
+        code: ErrorCode,
         by: &'a str,
         message: &'a str,
         start: usize,
@@ -39,30 +39,28 @@ pub(crate) fn read_back(bytes: &[u8]) -> Back<'_>
     ensures { IsBack bytes.now result }
 {
     answer_law();
-    match read_answer(bytes) {
-        Ok(
-            Answer::Fulfill {
-                fulfillment,
-                payload,
-            },
-        ) => Back::Fulfill {
+    let Ok(answer) = read_answer(bytes) else {
+        return Back::Unreadable;
+    };
+    match answer {
+        Answer::Fulfill {
+            fulfillment,
+            payload,
+        } => Back::Fulfill {
             fulfillment,
             start: bytes.len().saturating_sub(payload.len()),
         },
-        Ok(
-            Answer::Reject {
-                code,
-                by,
-                message,
-                payload,
-            },
-        ) => Back::Reject {
+        Answer::Reject {
+            code,
+            by,
+            message,
+            payload,
+        } => Back::Reject {
             code,
             by,
             message,
             start: bytes.len().saturating_sub(payload.len()),
         },
-        Err(_) => Back::Unreadable,
     }
 }
 

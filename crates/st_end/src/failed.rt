@@ -5,6 +5,7 @@ ghost use Rattle.st_end.specs.Failed as failures;
 ghost use Rattle.st_end.specs.Failures as seen;
 
 use crate::kept::Kept;
+use st_ilp::ErrorCode;
 use std::marker::Model;
 
 /// The most bytes of a Reject's triggeredBy.
@@ -33,7 +34,7 @@ pub(crate) enum Why {
     Unreadable,
     Unfit,
     Rejected {
-        code: [u8; 3],
+        code: ErrorCode,
         by: Kept<MAX_BY>,
         message: Kept<MAX_MESSAGE>,
     },
@@ -80,7 +81,7 @@ impl Failed {
     }
 
     /// A Reject.
-    pub(crate) fn rejected(code: [u8; 3], by: &str, message: &str) -> Failed
+    pub(crate) fn rejected(code: ErrorCode, by: &str, message: &str) -> Failed
         requires { length by.now ≤ 1023 }
         ensures { result ≡ failures.rejected_by code by.now message.now }
     {
@@ -106,7 +107,7 @@ impl Failed {
     }
 
     /// The code of the Reject, as `T04`. `None` if there was no Reject.
-    pub fn code(&self) -> Option<[u8; 3]>
+    pub fn code(&self) -> Option<ErrorCode>
         ensures { result ≡ seen.code_of self.now }
     {
         match &self.why {

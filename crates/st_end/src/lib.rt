@@ -41,7 +41,7 @@ pub use open_flight::OpenFlight;
 pub use opened::Opened;
 pub use received::Received;
 pub use role::Role;
-pub use st_ilp::Moment;
+pub use st_ilp::{ErrorCode, Moment};
 pub use st_keys::Keys;
 pub use st_oer::{Rate, is_address};
 pub use st_sender::{Blocked, EndConfig};

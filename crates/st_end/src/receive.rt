@@ -1,7 +1,6 @@
 //! The answer of an end to bytes that arrived.
 
 ghost use Rattle.std.specs.Prelude.{◌≡◌, ◌≤◌, ℕ, List, true, length, map, string_bytes, Ok, Err, None, Some, IfOk, OnErr, IsOkUnless};
-ghost use Rattle.st_ilp.specs.Rules.{is_code};
 ghost use Rattle.st_ilp.specs.Seen.{prepare_seen};
 ghost use Rattle.st_ilp.specs.Spelling.{prepare_kind};
 ghost use Rattle.st_frames.specs.Frames.{frames_of};
@@ -26,7 +25,7 @@ use crate::opened::{Opened, Payload, read_plain};
 use crate::received::Received;
 use crate::reply::{FULFILL, REJECT, code_unopened, fulfill_bytes, reject_bytes, reply_payload};
 use st_frames::{Frame, StreamPacket};
-use st_ilp::{Moment, Prepare, read_prepare};
+use st_ilp::{ErrorCode, Moment, Prepare, read_prepare};
 use st_keys::Keys;
 use st_oer::is_within;
 use st_receiver::{Decision, Intake, Plan, Reason};
@@ -137,11 +136,10 @@ impl<A: Allocator + Copy> EndState<A> {
     /// The answer to a Prepare whose payload was not read.
     fn unread(
         &self,
-        code: [u8; 3],
+        code: ErrorCode,
         reason: u8,
         prepare: &Prepare<'_>,
     ) -> Result<Received<A>, EndError>
-        requires { is_code code ≡ true }
         ensures only_memory { IsOkUnless result EndError.NoMemory }
         ensures answers { IfOk result (λ r. received_as self.now (prepare_seen prepare.now) (Unread code reason) ≡ (received_seen r, self.now)) }
     {
@@ -170,7 +168,12 @@ impl<A: Allocator + Copy> EndState<A> {
             return Err(EndError::NoMemory);
         };
         let payload = reply_payload(self.alloc, &self.keys, REJECT, prepare, packet, &frames)?;
-        let bytes = reject_bytes(self.alloc, *b"F99", self.own.as_str(), &payload)?;
+        let bytes = reject_bytes(
+            self.alloc,
+            ErrorCode::APPLICATION_ERROR,
+            self.own.as_str(),
+            &payload,
+        )?;
         raise_all(&mut self.outbox, packet.frames.again());
         Ok(Received {
             bytes,
@@ -262,10 +265,10 @@ impl<A: Allocator + Copy> EndState<A> {
         ensures unchanged { OnErr result (self.new ≡ self.old) }
     {
         if !is_within(self.own.as_str(), prepare.destination) {
-            return self.unread(*b"F02", 56, prepare);
+            return self.unread(ErrorCode::UNREACHABLE, 56, prepare);
         }
         if prepare.expiry <= now.ms() {
-            return self.unread(*b"R00", 57, prepare);
+            return self.unread(ErrorCode::TRANSFER_TIMED_OUT, 57, prepare);
         }
         self.receive_payload(prepare, payload)
     }
@@ -326,7 +329,12 @@ impl<A: Allocator + Copy> EndState<A> {
         ensures answers { IfOk result (λ r. received_as self.now no_prepare (Unread f01 reason) ≡ (received_seen r, self.now)) }
     {
         Ok(Received {
-            bytes: reject_bytes(self.alloc, *b"F01", self.own.as_str(), &[])?,
+            bytes: reject_bytes(
+                self.alloc,
+                ErrorCode::INVALID_PACKET,
+                self.own.as_str(),
+                &[],
+            )?,
             reason,
             amount: 0,
             sequence: None,

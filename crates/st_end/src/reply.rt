@@ -2,7 +2,7 @@
 
 ghost use Rattle.std.specs.Prelude.{◌≡◌, ◌≤◌, [], ◌∷◌, true, length, map, None, Some, IfOk, IsOkUnless};
 ghost use Rattle.st_oer.specs.Address.{is_address};
-ghost use Rattle.st_ilp.specs.Rules.{is_code, is_data};
+ghost use Rattle.st_ilp.specs.Rules.{is_data};
 ghost use Rattle.st_ilp.specs.Packets.{Fulfilled, Rejected};
 ghost use Rattle.st_ilp.specs.Spelling.{answer_text};
 ghost use Rattle.st_frames.specs.Seen.{seen};
@@ -16,7 +16,7 @@ ghost use Rattle.st_end.specs.Receiving as receiving;
 
 use crate::error::EndError;
 use st_frames::{Frame, StreamPacket};
-use st_ilp::{Answer, IlpError, Prepare, write_answer};
+use st_ilp::{Answer, ErrorCode, IlpError, Prepare, write_answer};
 use st_keys::{KeyError, Keys, payload_lengths};
 use std::alloc::Allocator;
 
@@ -28,14 +28,14 @@ pub(crate) const FULFILL: u8 = 13;
 pub(crate) const REJECT: u8 = 14;
 
 /// The code of a Reject of a payload that did not open.
-pub(crate) fn code_unopened(fault: KeyError) -> [u8; 3]
+pub(crate) fn code_unopened(fault: KeyError) -> ErrorCode
     ensures { result ≡ receiving.code_unopened fault }
 {
     match fault {
-        KeyError::Short => *b"F06",
-        KeyError::Tag => *b"F06",
-        KeyError::Packet(_) => *b"F99",
-        KeyError::NoMemory => *b"T00",
+        KeyError::Short => ErrorCode::UNEXPECTED_PAYMENT,
+        KeyError::Tag => ErrorCode::UNEXPECTED_PAYMENT,
+        KeyError::Packet(_) => ErrorCode::APPLICATION_ERROR,
+        KeyError::NoMemory => ErrorCode::INTERNAL_ERROR,
     }
 }
 
@@ -89,11 +89,10 @@ pub(crate) fn reply_payload<A: Allocator + Copy>(
 #[tactic(auto, unfolding(st_ilp::specs::Writing::answer_refusal))]
 pub(crate) fn reject_bytes<A: Allocator>(
     alloc: A,
-    code: [u8; 3],
+    code: ErrorCode,
     own: &str,
     payload: &[u8],
 ) -> Result<Vec<u8, A>, EndError>
-    requires code { is_code code ≡ true }
     requires own { is_address own.now ≡ true }
     requires payload { is_data payload.now ≡ true }
     ensures only_memory { IsOkUnless result EndError.NoMemory }
@@ -141,5 +140,5 @@ pub(crate) fn ready_t00<A: Allocator>(alloc: A, own: &str) -> Result<Vec<u8, A>,
     ensures only_memory { IsOkUnless result EndError.NoMemory }
     ensures text { IfOk result (λ v. v.items ≡ receiving.t00_text own.now) }
 {
-    reject_bytes(alloc, *b"T00", own, &[])
+    reject_bytes(alloc, ErrorCode::INTERNAL_ERROR, own, &[])
 }

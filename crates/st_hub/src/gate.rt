@@ -17,11 +17,15 @@ pub(crate) fn is_temporary<A: Allocator + Copy>(outcome: &Outcome<A>) -> bool
     ensures { result ≡ is_temporary (outcome_seen outcome.now) }
 {
     match outcome {
-        Outcome::Answered(bytes) => match read_answer(bytes) {
-            Ok(Answer::Reject { code, .. }) => code[0] == b'T',
-            Ok(Answer::Fulfill { .. }) => false,
-            Err(_) => true,
-        },
+        Outcome::Answered(bytes) => {
+            let Ok(answer) = read_answer(bytes) else {
+                return true;
+            };
+            match answer {
+                Answer::Reject { code, .. } => code.class() == b'T',
+                Answer::Fulfill { .. } => false,
+            }
+        }
         Outcome::Fault => true,
     }
 }

@@ -1,5 +1,5 @@
 -- The rules on fields: RFC 0027 with the limits of this profile.
-use Rattle.std.specs.Prelude.{ℕ, ◌==◌, nat_le, Bool, ◌&&◌, ◌||◌, List, length}
+use Rattle.std.specs.Prelude.{ℕ, ◌==◌, nat_le, slice_index_or, Bool, ◌&&◌, ◌||◌, List, length}
 use Rattle.std.specs.List.{list_all}
 use Rattle.st_oer.specs.Address.{is_address}
 
@@ -26,3 +26,7 @@ is_code_character c = nat_le 0x21 c && nat_le c 0x7e
 -- a code of an error
 abbrev pub is_code : List ℕ → Bool
 is_code text = list_all is_code_character text
+
+-- the class of an error: its code's first character, which is F, T or R in RFC 0027
+abbrev pub class_of : List ℕ → ℕ
+class_of text = slice_index_or text 0 0

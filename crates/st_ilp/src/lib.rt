@@ -5,6 +5,7 @@
 //! packet's outer octet string is checked first, then the fields in their order.
 #![tactic(auto)]
 
+mod code;
 mod error;
 mod expiry;
 mod laws;
@@ -15,6 +16,7 @@ mod reject;
 mod size;
 mod writing;
 
+pub use code::ErrorCode;
 pub use error::IlpError;
 pub use expiry::{read_expiry, write_expiry};
 pub use laws::{

@@ -1,8 +1,12 @@
 //! ILP packets as values that borrow their texts and data.
 
-ghost use Rattle.std.specs.Prelude.{◌≡◌};
+ghost use Rattle.std.specs.Prelude.{◌≡◌, true, false, MatchResult};
+ghost use Rattle.st_ilp.specs.Packets.{Rejected};
 ghost use Rattle.st_ilp.specs.Rules as rules;
+ghost use Rattle.st_ilp.specs.Seen.{answer_seen};
 
+use crate::code::ErrorCode;
+use crate::error::IlpError;
 use st_oer::is_address;
 
 /// The kind of a Prepare (RFC 0027): the packet's first byte.
@@ -47,8 +51,8 @@ pub enum Answer<'a> {
     },
     /// The Prepare was not carried out.
     Reject {
-        /// The error code: three characters, for example `F02`.
-        code: [u8; 3],
+        /// The error code, for example `F02`.
+        code: ErrorCode,
         /// The ILP address of the node that created the Reject (triggeredBy), or the empty text.
         by: &'a str,
         /// A message for people. Writing accepts at most 8,191 bytes.
@@ -58,11 +62,26 @@ pub enum Answer<'a> {
     },
 }
 
-/// Whether three bytes are a code: none is a space, and all are printable ASCII.
-pub(crate) fn is_code(code: &[u8; 3]) -> bool
-    ensures { result ≡ rules.is_code code.now }
-{
-    code.iter().all(|character| character.is_ascii_graphic())
+impl<'a> Answer<'a> {
+    /// A Reject whose code is given by its three characters. Fails with `Code` if they are not a code.
+    pub fn reject(
+        code: [u8; 3],
+        by: &'a str,
+        message: &'a str,
+        payload: &'a [u8],
+    ) -> Result<Answer<'a>, IlpError>
+        ensures { MatchResult result
+            (λ answer. (answer_seen answer ≡ Rejected code by.now message.now payload.now) × (rules.is_code code ≡ true))
+            (λ e. (e ≡ IlpError.Code) × (rules.is_code code ≡ false)) }
+    {
+        let code = ErrorCode::new(code).ok_or(IlpError::Code)?;
+        Ok(Answer::Reject {
+            code,
+            by,
+            message,
+            payload,
+        })
+    }
 }
 
 /// Whether a text may be the triggeredBy of a Reject.

@@ -5,9 +5,10 @@ ghost use Rattle.st_oer.specs.Seen.{Gives};
 ghost use Rattle.st_ilp.specs.Reading.{expires_at, hash_at, code_at, destination_at, sender_at, message_at, data_at, packet_at, prepare_within, fulfill_within, reject_within, prepare_at, answer_at};
 ghost use Rattle.st_ilp.specs.Seen.{prepare_seen, answer_seen};
 
+use crate::code::ErrorCode;
 use crate::error::IlpError;
 use crate::expiry::read_expiry;
-use crate::packet::{Answer, FULFILL, MAX_DATA, PREPARE, Prepare, REJECT, is_code, is_sender};
+use crate::packet::{Answer, FULFILL, MAX_DATA, PREPARE, Prepare, REJECT, is_sender};
 use st_oer::{Cut, OerError, is_address, utf8};
 
 #[tactic(auto, unfolding(crate::specs::Reading::expires_at))]
@@ -29,17 +30,13 @@ fn hash(cut: &mut Cut<'_>) -> Result<[u8; 32], IlpError>
 }
 
 #[tactic(auto, unfolding(crate::specs::Reading::code_at))]
-fn code(cut: &mut Cut<'_>) -> Result<[u8; 3], IlpError>
+fn code(cut: &mut Cut<'_>) -> Result<ErrorCode, IlpError>
     ensures { Gives (λ x. (x, cut.new)) result (code_at cut.old) }
 {
-    let Ok(code) = <[u8; 3]>::try_from(cut.fixed(3)?) else {
+    let Ok(characters) = <[u8; 3]>::try_from(cut.fixed(3)?) else {
         return Err(IlpError::Oer(OerError::Short));
     };
-    if is_code(&code) {
-        Ok(code)
-    } else {
-        Err(IlpError::Code)
-    }
+    ErrorCode::new(characters).ok_or(IlpError::Code)
 }
 
 #[tactic(auto, unfolding(crate::specs::Reading::octets_with), using(crate::proofs::AddressTexts::texts))]

@@ -1,31 +1,31 @@
 //! Writing Rejects, also into a vector with reserved capacity.
 
-ghost use Rattle.std.specs.Prelude.{◌≡◌, ◌≢◌, ◌<◌, ◌≤◌, ◌^◌, ◌+◌, ◌++◌, [], length, None, IsOk, IfErr, OnOk, OnErr, vec_len, vec_capacity};
+ghost use Rattle.std.specs.Prelude.{◌≡◌, ◌≢◌, ◌<◌, ◌≤◌, ◌^◌, ◌+◌, ◌++◌, [], true, length, None, IsOk, IfErr, OnOk, OnErr, vec_len, vec_capacity};
 ghost use Rattle.st_ilp.specs.Packets.{Rejected};
+ghost use Rattle.st_ilp.specs.Rules.{is_code};
 ghost use Rattle.st_ilp.specs.Spelling.{answer_text, answer_contents};
 ghost use Rattle.st_ilp.specs.Writing.{answer_refusal, reject_size, Judges, WritesAnswer};
 
+use crate::code::ErrorCode;
 use crate::error::IlpError;
-use crate::packet::{MAX_DATA, MAX_MESSAGE, REJECT, is_code, is_sender};
+use crate::packet::{MAX_DATA, MAX_MESSAGE, REJECT, is_sender};
 use crate::size::{self, reject_contents_len};
 use crate::writing::put_head;
 use st_oer::put_octets;
 use std::alloc::Allocator;
 
-/// Checks that these fields may be written in a Reject.
+/// Checks that these fields may be written in a Reject with this code.
 #[tactic(auto, unfolding(crate::specs::Writing::answer_refusal))]
 pub(crate) fn judge_reject(
-    code: &[u8; 3],
+    code: [u8; 3],
     by: &str,
     message: &str,
     payload: &[u8],
 ) -> Result<(), IlpError>
-    ensures judged { Judges (answer_refusal (Rejected code.now by.now message.now payload.now)) result }
+    requires { is_code code ≡ true }
+    ensures judged { Judges (answer_refusal (Rejected code by.now message.now payload.now)) result }
     ensures no_memory { IfErr result (λ e. e ≢ IlpError.NoMemory) }
 {
-    if !is_code(code) {
-        return Err(IlpError::Code);
-    }
     if !is_sender(by) {
         return Err(IlpError::Address);
     }
@@ -72,12 +72,12 @@ pub fn reject_len(by: &str, data_len: usize) -> usize
 /// Appends a Reject without a message (RFC 0027). `by` is its triggeredBy, `payload` its data. Does not allocate if
 /// `out` has `reject_len` bytes of free capacity.
 ///
-/// Fails with `Code`, `Address` or `DataTooLong`, checked in this order, and then with `NoMemory` if memory is
-/// refused. `out` then keeps the bytes that it had.
+/// Fails with `Address` or `DataTooLong`, checked in this order, and then with `NoMemory` if memory is refused. `out`
+/// then keeps the bytes that it had.
 #[tactic(auto, using(crate::proofs::Sizes::sizes))]
 pub fn put_reject<A: Allocator>(
     out: &mut Vec<u8, A>,
-    code: [u8; 3],
+    code: ErrorCode,
     by: &str,
     payload: &[u8],
 ) -> Result<(), IlpError>
@@ -88,7 +88,8 @@ pub fn put_reject<A: Allocator>(
         vec_len out.old + reject_size by.now (length payload.now) ≤ vec_capacity out.old → IsOk result }
     ensures capacity { vec_capacity out.old ≤ vec_capacity out.new }
 {
-    judge_reject(&code, by, "", payload)?;
+    let code = code.text();
+    judge_reject(code, by, "", payload)?;
     out.reserve(reject_len(by, payload.len()))?;
     append_reject(out, code, by, "", payload);
     Ok(())

@@ -9,6 +9,7 @@ ghost use Rattle.st_ilp.specs.Spelling.{prepare_contents, prepare_text};
 ghost use Rattle.st_ilp.specs.Writing.{prepare_written, answer_written};
 ghost use Rattle.st_ilp.specs.Seen.{prepare_seen, answer_seen};
 
+use crate::code::ErrorCode;
 use crate::error::IlpError;
 use crate::expiry::write_expiry;
 use crate::packet::{Answer, FULFILL, MAX_DATA, PREPARE, Prepare};
@@ -92,14 +93,15 @@ fn fulfill_bytes<A: Allocator>(
 #[tactic(auto, using(crate::proofs::Sizes::sizes))]
 fn reject_bytes<A: Allocator>(
     alloc: A,
-    code: [u8; 3],
+    code: ErrorCode,
     by: &str,
     message: &str,
     payload: &[u8],
 ) -> Result<Vec<u8, A>, IlpError>
     ensures { Writes IlpError.NoMemory (λ out. out.items) result (answer_written (Rejected code by.now message.now payload.now)) }
 {
-    judge_reject(&code, by, message, payload)?;
+    let code = code.text();
+    judge_reject(code, by, message, payload)?;
     let size = reject_size(by.len(), message.len(), payload.len());
     let mut out = Vec::with_capacity(alloc, size)?;
     append_reject(&mut out, code, by, message, payload);
@@ -108,8 +110,8 @@ fn reject_bytes<A: Allocator>(
 
 /// The bytes of a Fulfill or a Reject (RFC 0027), in a new vector.
 ///
-/// Fails with `Code`, `Address` or `DataTooLong`, checked in this order, and then with `NoMemory` if memory is
-/// refused. `DataTooLong` is for a message above 8,191 bytes and for data above 32,767.
+/// Fails with `Address` or `DataTooLong`, checked in this order, and then with `NoMemory` if memory is refused.
+/// `DataTooLong` is for a message above 8,191 bytes and for data above 32,767.
 pub fn write_answer<A: Allocator>(alloc: A, answer: &Answer<'_>) -> Result<Vec<u8, A>, IlpError>
     ensures { Writes IlpError.NoMemory (λ out. out.items) result (answer_written (answer_seen answer.now)) }
 {

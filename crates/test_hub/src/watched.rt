@@ -4,7 +4,7 @@ use crate::hubs::{Locked, Trial, offer, run, share_of, work_watched};
 use st_devices::Counted;
 use st_end::{Failed, FailedKind};
 use st_hub::{HubLink, Observer};
-use st_ilp::Moment;
+use st_ilp::{ErrorCode, Moment};
 use st_links::{Link, LinkFault};
 use st_queues::{GaugeSeat, HubName};
 use st_sender::Blocked;
@@ -48,7 +48,7 @@ impl Link<Global> for Failing {
 struct Notes {
     count: u64,
     kind: FailedKind,
-    code: Option<[u8; 3]>,
+    code: Option<ErrorCode>,
     limit: u64,
     is_of_hop: bool,
 }
@@ -96,7 +96,7 @@ impl<R: Wait + Abort + std::time::Clock> Trial<R> for Fails {
         sure!(rt; notes.limit == 1_000 && !notes.is_of_hop);
         work_watched(rt, hubs, seat, &mut link, &mut ivs, 1, &mut notes);
         sure!(rt; notes.count == 2 && notes.kind == FailedKind::Rejected);
-        sure!(rt; notes.code == Some(*b"F08") && notes.limit == 5 && notes.is_of_hop);
+        sure!(rt; notes.code == Some(ErrorCode::AMOUNT_TOO_LARGE) && notes.limit == 5 && notes.is_of_hop);
         work_watched(rt, hubs, seat, &mut link, &mut ivs, 1, &mut notes);
         sure!(rt; notes.count == 3 && notes.kind == FailedKind::Unreadable);
         sure!(rt; notes.code.is_none() && hubs.near.lock(rt).packet_limit() == 5);
