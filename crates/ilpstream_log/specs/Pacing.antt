@@ -1,5 +1,5 @@
 -- Which lines are written, and what is counted of the others.
-use Rattle.std.specs.Prelude.{◌≡◌, ℕ, suc, ◌+◌, ◌*◌, ◌<◌, ◌≤◌, ◌==◌, min, if◌then◌else◌, List, [], ◌∷◌, Option, Some, None}
+use Rattle.std.specs.Prelude.{◌≡◌, ℕ, suc, ◌+◌, ◌*◌, ◌<◌, ◌≤◌, ◌==◌, min, if◌then◌else◌, List, [], ◌∷◌, Option, Some, None, MatchOption, slice_get, slice_set}
 use Rattle.st_devices.specs.Faults.{count_after}
 use Rattle.ilpstream_log.specs.Lines.{place_of}
 use Rattle.ilpstream_log.specs.declared.event.Kind.{Kind}
@@ -38,6 +38,11 @@ told_in (Some l) = l.count
 -- the place at which a kind from a neighbour is counted: each has its own, but neighbours above the last share the last one's
 abbrev pub slot_place : (last : ℕ) → Kind → (neighbour : ℕ) → ℕ
 slot_place last k n = min n last * 14 + place_of k
+
+-- the slot at a place changes so, and no other; without such a place none does, and this holds
+abbrev pub ChangesAt : (place : ℕ) → (old new : List Slot) → (without : Type 0) → (Slot → Slot → Type 0) → Type 0
+ChangesAt place old new without Changes = MatchOption (slice_get old place) ((new ≡ old) × without)
+    (λ was. (is : Slot) × Changes was is × (new ≡ slice_set old place is))
 
 -- ---- runs of events of one kind from one neighbour
 

@@ -1,9 +1,8 @@
 //! How many lines are written of one kind from one neighbour.
 
-ghost use Rattle.std.specs.Prelude.{◌≡◌, ◌<◌, ◌+◌, ◌*◌, IfNone, IfOk, IfSome, MatchOption, None, Some, min, replicate, slice_get, slice_set};
-ghost use Rattle.ilpstream_log.specs.Lines.{place_of};
+ghost use Rattle.std.specs.Prelude.{◌≡◌, ◌<◌, ◌+◌, ◌*◌, IfOk, IfSome, None, Some, replicate};
 ghost use Rattle.ilpstream_log.specs.Pacing as spec;
-ghost use Rattle.ilpstream_log.specs.Pacing.{Paces, Tells, empty, slot_place};
+ghost use Rattle.ilpstream_log.specs.Pacing.{Paces, Tells, empty, slot_place, ChangesAt};
 
 use crate::event::{KINDS, Kind};
 use std::alloc::{AllocError, Global};
@@ -120,8 +119,8 @@ impl Pace {
     /// Otherwise the event is counted.
     pub fn lets(&mut self, kind: Kind, neighbour: usize, second: u64) -> Verdict
         ensures last { self.new.last ≡ self.old.last }
-        ensures paced { MatchOption (slice_get self.old.slots.items (slot_place self.old.last kind neighbour)) ((self.new.slots.items ≡ self.old.slots.items) × (result ≡ Verdict.Write 0))
-            (λ old. (new : spec.Slot) × Paces old second result new × (self.new.slots.items ≡ slice_set self.old.slots.items (slot_place self.old.last kind neighbour) new)) }
+        ensures paced { ChangesAt (slot_place self.old.last kind neighbour) self.old.slots.items self.new.slots.items
+            (result ≡ Verdict.Write 0) (λ old new. Paces old second result new) }
     {
         let place = self.place(kind, neighbour);
         match self.slots.get_mut(place) {
@@ -133,8 +132,8 @@ impl Pace {
     /// Reports the events left out at one place, and sets their count to 0. `None` if none are left out there.
     pub fn tell(&mut self, kind: Kind, neighbour: usize) -> Option<Left>
         ensures last { self.new.last ≡ self.old.last }
-        ensures told { MatchOption (slice_get self.old.slots.items (slot_place self.old.last kind neighbour)) ((self.new.slots.items ≡ self.old.slots.items) × (result ≡ None))
-            (λ old. (new : spec.Slot) × Tells old (spec.told_in result) new × (self.new.slots.items ≡ slice_set self.old.slots.items (slot_place self.old.last kind neighbour) new)) }
+        ensures told { ChangesAt (slot_place self.old.last kind neighbour) self.old.slots.items self.new.slots.items
+            (result ≡ None) (λ old new. Tells old (spec.told_in result) new) }
         ensures whose { IfSome result (λ left. (left.kind ≡ kind) × (left.neighbour ≡ neighbour) × (0 < left.count)) }
     {
         let place = self.place(kind, neighbour);

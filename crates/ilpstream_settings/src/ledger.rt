@@ -161,7 +161,8 @@ fn units_of(text: &str) -> Option<u64>
 
 /// The adjustment of these texts. `None` exactly if they are not valid.
 fn adjusted<'a>(name: &'a str, side: &str, amount: &str, reference: &'a str) -> Option<Payment<'a>>
-    ensures { MatchOption result ((p : Payment) → ¬ (IsAdjusted name.now side.now amount.now reference.now p)) (IsAdjusted name.now side.now amount.now reference.now) }
+    ensures { MatchOption result ((p : Payment) → ¬ (IsAdjusted name.now side.now amount.now reference.now p))
+        (IsAdjusted name.now side.now amount.now reference.now) }
 {
     if !is_field_text(name) || !is_reference(reference) {
         return None;

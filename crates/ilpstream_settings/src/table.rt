@@ -61,7 +61,8 @@ impl<'a, A: Allocator + Copy> Table<'a, A> {
 
     /// Adds what a line says, which is given as the texts between its spaces.
     fn take_line(&mut self, words: &[&'a str]) -> Result<(), TableError>
-        ensures taken { OnOk result (Takes (map (λ w. w.now) words.now) self.old.accounts.items self.old.routes.items self.new.accounts.items self.new.routes.items) }
+        ensures taken { OnOk result (Takes (map (λ w. w.now) words.now)
+            self.old.accounts.items self.old.routes.items self.new.accounts.items self.new.routes.items) }
         ensures bad { IfErr result (λ e. e ≡ BadLine → IsBad (map (λ w. w.now) words.now)) }
         ensures other { IfErr result (λ e. e ≢ SameName) }
     {

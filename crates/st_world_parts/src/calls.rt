@@ -26,7 +26,8 @@ fn write_slot<A: Allocator + Copy>(
     stream: u8,
     bytes: &[u8],
 ) -> Result<Told<A>, AllocError>
-    ensures met { IfOk result (λ told. SlotMet (calls.write state.old stream bytes.now) (written bytes.now (ledger_or slot.old)) (told_seen told) state.old state.new slot.old slot.new) }
+    ensures met { IfOk result (λ told. SlotMet (calls.write state.old stream bytes.now)
+        (written bytes.now (ledger_or slot.old)) (told_seen told) state.old state.new slot.old slot.new) }
     ensures same_state { OnErr result (state.new ≡ state.old) }
     ensures same_slot { OnErr result (slot.new ≡ slot.old) }
 {
@@ -149,7 +150,8 @@ pub fn write_at<A: Allocator + Copy>(
     stream: u8,
     bytes: &[u8],
 ) -> Result<Told<A>, AllocError>
-    ensures met { IfOk result (λ told. CallMet (calls.write party.old.state stream bytes.now) stream (written bytes.now (ledger_or (fmap.get ledgers.old stream))) (told_seen told) party.old party.new ledgers.old ledgers.new) }
+    ensures met { IfOk result (λ told. CallMet (calls.write party.old.state stream bytes.now) stream
+        (written bytes.now (ledger_or (fmap.get ledgers.old stream))) (told_seen told) party.old party.new ledgers.old ledgers.new) }
     ensures same_party { OnErr result (party.new ≡ party.old) }
     ensures same_ledgers { OnErr result (ledgers.new ≡ ledgers.old) }
 {
@@ -165,7 +167,8 @@ pub fn close_at<A: Allocator + Copy>(
     ledgers: &mut StreamLogs<A>,
     stream: u8,
 ) -> Told<A>
-    ensures met { CallMet (calls.close party.old.state stream) stream (cleanly_closed (ledger_or (fmap.get ledgers.old stream))) (told_seen result) party.old party.new ledgers.old ledgers.new }
+    ensures met { CallMet (calls.close party.old.state stream) stream
+        (cleanly_closed (ledger_or (fmap.get ledgers.old stream))) (told_seen result) party.old party.new ledgers.old ledgers.new }
     ensures called { told_seen result ≡ events.Call (calls.close party.old.state stream).0 }
 {
     let slot = &mut ledgers.slots[usize::from(stream)];
@@ -181,7 +184,8 @@ pub fn abort_at<A: Allocator + Copy>(
     code: u8,
 ) -> Told<A>
     requires { code ≢ 1 }
-    ensures met { CallMet (calls.abort party.old.state stream code) stream (given_up (ledger_or (fmap.get ledgers.old stream))) (told_seen result) party.old party.new ledgers.old ledgers.new }
+    ensures met { CallMet (calls.abort party.old.state stream code) stream
+        (given_up (ledger_or (fmap.get ledgers.old stream))) (told_seen result) party.old party.new ledgers.old ledgers.new }
     ensures called { told_seen result ≡ events.Call (calls.abort party.old.state stream code).0 }
 {
     let slot = &mut ledgers.slots[usize::from(stream)];
@@ -196,7 +200,8 @@ pub fn offer_at<A: Allocator + Copy>(
     stream: u8,
     amount: u64,
 ) -> Told<A>
-    ensures met { CallMet (calls.offer party.old.state stream amount) stream (ledger_or (fmap.get ledgers.old stream)) (told_seen result) party.old party.new ledgers.old ledgers.new }
+    ensures met { CallMet (calls.offer party.old.state stream amount) stream
+        (ledger_or (fmap.get ledgers.old stream)) (told_seen result) party.old party.new ledgers.old ledgers.new }
     ensures called { told_seen result ≡ events.Call (calls.offer party.old.state stream amount).0 }
 {
     let slot = &mut ledgers.slots[usize::from(stream)];

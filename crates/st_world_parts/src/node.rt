@@ -1,10 +1,10 @@
 //! A hop with its open tickets and its answered Prepares.
 
-ghost use Rattle.std.specs.Prelude.{◌≡◌, ◌<◌, ℕ, [], ◌∷◌, OnErr, IfOk, None, Some, MatchBool, IsOkUnless, IsErrOf, map, length, nat_eq, nat_lt, slice_index, if◌then◌else◌};
+ghost use Rattle.std.specs.Prelude.{◌≡◌, ◌<◌, ℕ, [], ◌∷◌, OnErr, IfOk, None, Some, map, length, nat_eq, nat_lt, slice_index, if◌then◌else◌};
 ghost use Rattle.indexmap.specs.IndexMap.{get, spare};
 ghost use Rattle.st_links.specs.Outcomes.{outcome_seen};
 ghost use Rattle.st_hop.specs.Seen.{way_seen as hop_way_seen};
-ghost use Rattle.st_hop.specs.Table.{is_table, new_hop};
+ghost use Rattle.st_hop.specs.Table.{is_table, new_hop, RefusesBadTable};
 ghost use Rattle.st_world_parts.specs.Seen.{way_seen, told_seen};
 ghost use Rattle.st_world_parts.specs.Parts.{HopMet, HopBack, HopCrashed};
 
@@ -76,7 +76,7 @@ impl<A: Allocator + Copy> Node<A> {
         routes: &[Route<'_>],
     ) -> Result<Node<A>, HopError>
         ensures made { IfOk result (λ n. n ≡ record { state = new_hop own.now (account ∷ account ∷ []) (map hop_way_seen routes.now); answered = [] }) }
-        ensures refused { MatchBool (is_table own.now (account ∷ account ∷ []) (map hop_way_seen routes.now)) (IsOkUnless result HopError.NoMemory) (IsErrOf result HopError.BadTable) }
+        ensures refused { RefusesBadTable (is_table own.now (account ∷ account ∷ []) (map hop_way_seen routes.now)) result }
     {
         let state = HopState::new(alloc, own, &[account, account], routes)?;
         Ok(Node {
@@ -90,7 +90,8 @@ impl<A: Allocator + Copy> Node<A> {
     /// What an account owes the hop, in units of that account's asset. Fails with `NoAccount` if there is no such
     /// account. Does not allocate.
     pub fn claims(&self, account: usize) -> Result<u64, HopError>
-        ensures { result ≡ (if nat_lt account (length self.now.state.accounts) then Ok (slice_index self.now.state.claims account) else Err HopError.NoAccount) }
+        ensures { result ≡ (if nat_lt account (length self.now.state.accounts) then Ok (slice_index self.now.state.claims account)
+            else Err HopError.NoAccount) }
     {
         self.state.claims(account)
     }
@@ -190,7 +191,8 @@ pub fn settle_at<A: Allocator + Copy>(
     outcome: Outcome<A>,
     now: Moment,
 ) -> Result<Told<A>, AllocError>
-    ensures settled { IfOk result (λ told. HopBack put.now which (outcome_seen outcome) now (told_seen told) node.old node.new from.old from.new back.old back.new) }
+    ensures settled { IfOk result (λ told. HopBack put.now which (outcome_seen outcome) now (told_seen told)
+        node.old node.new from.old from.new back.old back.new) }
     ensures same_node { OnErr result (node.new ≡ node.old) }
     ensures same_from { OnErr result (from.new ≡ from.old) }
     ensures same_back { OnErr result (back.new ≡ back.old) }
