@@ -77,7 +77,7 @@ PLAIN = [
     (r"(?-i:Else|So (?:is|are|does|do)(?! it\b| they\b)|Not where|Of wh(?:ich|om))", "a sentence of its own: otherwise, the same holds of"),
     (r"in a minute|calls get on|cut off:", "who it is for, make progress, interrupted"),
     (r"those used below", "an argument by name"),
-    (r"(is|are|was|were|be|been|being|not) taken(?! (?:apart|away|back|effect|off|over|place|together|up))", "is accepted, is read, is removed"),
+    (r"(is|are|was|were|be|been|being|not) taken(?! (?:apart|are taken back|away|back|effect|off|over|place|together|up))", "is accepted, is read, is removed"),
     (rf"(take|takes|took) (?:{TAKEN})", "accepts, reads, needs, removes"),
 ]
 # Names of the code, which its own pages use (GLOSSARY has them), and pages for users of the program and of the library do not.
