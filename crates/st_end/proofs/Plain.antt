@@ -6,7 +6,7 @@ use Rattle.std.specs.Ordering.{nat_cmp}
 use Rattle.std.specs.FinMap as map
 use Rattle.std.proofs.lemmas.Bool.{le-leb}
 use Rattle.std.proofs.lemmas.Grind.{common_steps}
-use Rattle.std.proofs.lemmas.List.{length-append, length-drop, take_at, drop_at}
+use Rattle.std.proofs.lemmas.List.{length-append, length-take, length-drop, take_at, drop_at}
 use Rattle.std.proofs.lemmas.Slice.Eq.{bytes_eq-Decides}
 use Rattle.st_oer.specs.Spelling.{length_bytes, octets}
 use Rattle.st_ilp.specs.Expiry.{expiry_text}
@@ -127,7 +127,7 @@ plain_of peer now p q payload bytes c at l amount expiry destination same spells
 
 -- what sealing makes of it is a flight and the bytes of its Prepare
 pub spelled : (keys : DerivedKeys) (peer iv : List ℕ) (now : ℤ) (p : Load) (bytes : List ℕ) (c at : ℕ) → length iv ≡ 12 → IsPlain peer now p bytes c at
-    → (let x = launched keys iv p.sequence bytes c at in IsSpelled keys peer iv now p x.flight x.bytes)
+    → (let x = launched keys iv p.sequence p.amount bytes c at in IsSpelled keys peer iv now p x.flight x.bytes)
 unfolding launched sealed_packet
 spelled keys peer iv now p bytes c at long h =
     let payload = sealed keys iv (drop 28 (drop at bytes)) in
@@ -141,6 +141,30 @@ spelled keys peer iv now p bytes c at long h =
       flight_is = refl;
       bytes_are = h.whole (condition (fulfillment keys payload)) payload hash sized;
     }
+
+-- they are as long as what is not sealed
+pub as_long : (keys : DerivedKeys) (iv : List ℕ) (sequence amount : ℕ) (bytes : List ℕ) (c p : ℕ) → length iv ≡ 12 → c + 32 ≤ p → p + 28 ≤ length bytes → length bytes ≡ length (launched keys iv sequence amount bytes c p).bytes
+unfolding launched
+as_long keys iv sequence amount bytes c p long front back =
+    let plain = drop 28 (drop p bytes) in
+    let payload = sealed keys iv plain in
+    let hash = condition (fulfillment keys payload) in
+    let middle = drop (c + 32) (take p bytes) in
+    omega (
+      arith,
+      front,
+      back,
+      (condition_is (fulfillment keys payload)).count,
+      sealed_length keys iv plain long,
+      length-append (take c bytes) (hash ++ (middle ++ payload)),
+      length-append hash (middle ++ payload),
+      length-append middle payload,
+      length-take c bytes,
+      length-take p bytes,
+      length-drop (c + 32) (take p bytes),
+      length-drop 28 (drop p bytes),
+      length-drop p bytes,
+    )
 
 -- ---- once the condition is known
 

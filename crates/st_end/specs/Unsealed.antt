@@ -9,23 +9,25 @@ use Rattle.st_end.specs.Sending.{Goes, is_kept, with_condition}
 
 -- ---- what sealing gives
 
--- a flight, and the bytes of its Prepare
+-- a flight, and the amount and the bytes of its Prepare
 pub record Launched : Type 0 where
   pub flight : Open
+  pub amount : ℕ
   pub bytes : List ℕ
 
 -- those of a payload: the front of its Prepare ends before the condition, and the middle is between condition and payload
-abbrev pub launched_with : DerivedKeys → (sequence : ℕ) → (front middle payload : List ℕ) → Launched
-launched_with keys sequence front middle payload = record {
+abbrev pub launched_with : DerivedKeys → (sequence amount : ℕ) → (front middle payload : List ℕ) → Launched
+launched_with keys sequence amount front middle payload = record {
   flight = record { sequence = sequence; condition = condition (fulfillment keys payload) };
+  amount = amount;
   bytes = front ++ (condition (fulfillment keys payload) ++ (middle ++ payload));
 }
 
 -- those of a Prepare with a plain payload, whose condition and whose payload begin at these places. The payload has 28 bytes of room and
 -- then a text, which is sealed under this IV. The condition is that of the sealed payload
-unfoldable pub launched : DerivedKeys → (iv : List ℕ) → (sequence : ℕ) → (bytes : List ℕ) → (condition_at payload_at : ℕ) → Launched
-launched keys iv sequence bytes c p =
-    launched_with keys sequence (take c bytes) (drop (c + 32) (take p bytes)) (sealed keys iv (drop 28 (drop p bytes)))
+unfoldable pub launched : DerivedKeys → (iv : List ℕ) → (sequence amount : ℕ) → (bytes : List ℕ) → (condition_at payload_at : ℕ) → Launched
+launched keys iv sequence amount bytes c p =
+    launched_with keys sequence amount (take c bytes) (drop (c + 32) (take p bytes)) (sealed keys iv (drop 28 (drop p bytes)))
 
 -- ---- the end until then
 

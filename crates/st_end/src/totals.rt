@@ -73,7 +73,8 @@ impl<A: Allocator + Copy> EndState<A> {
     }
 
     /// The limit of the peer at which bytes or money wait, if the Prepare in flight under this sequence carries a Blocked
-    /// frame (RFC 0029, section 5.3). `None` if it carries none, and once its outcome was reported. Does not allocate.
+    /// frame (RFC 0029, section 5.3). A Prepare is in flight from `send_unsealed` on, whether its condition is kept or
+    /// not. `None` if it carries none, and once its outcome was reported. Does not allocate.
     pub fn blocked_at(&self, sequence: u64) -> Option<Blocked>
         ensures { result ≡ blocked_at self.now.sending.flights sequence }
     {

@@ -154,15 +154,15 @@ pub struct Unsealed<A: Allocator + Copy> {
 }
 
 impl<A: Allocator + Copy> Model for Unsealed<A> {
-    ghost use Rattle.std.specs.Prelude.{◌≤◌, ◌+◌, length};
+    ghost use Rattle.std.specs.Prelude.{◌≡◌, ◌≤◌, ◌+◌, length};
     ghost use Rattle.std.specs.Arc.{arc_value};
     ghost use Rattle.st_end.specs.Unsealed.{Launched, launched};
 
     ghost Value = { Launched };
 
-    ghost view = { λ u. launched (arc_value u.keys) u.iv u.sequence u.plain.bytes.items u.plain.condition_at u.plain.payload_at };
+    ghost view = { λ u. launched (arc_value u.keys) u.iv u.sequence u.amount u.plain.bytes.items u.plain.condition_at u.plain.payload_at };
 
-    ghost invariant = { λ u. (u.plain.condition_at + 32 ≤ u.plain.payload_at) × (u.plain.payload_at + 28 ≤ length u.plain.bytes.items) };
+    ghost invariant = { λ u. (u.plain.condition_at + 32 ≤ u.plain.payload_at) × (u.plain.payload_at + 28 ≤ length u.plain.bytes.items) × (length u.iv ≡ 12) };
 }
 
 impl<A: Allocator + Copy> Unsealed<A> {
@@ -175,7 +175,7 @@ impl<A: Allocator + Copy> Unsealed<A> {
     ) -> Unsealed<A>
         requires front { plain.condition_at + CONDITION ≤ plain.payload_at }
         requires back { plain.payload_at + OVERHEAD ≤ length plain.bytes.items }
-        ensures { result ≡ launched (arc_value keys) iv sequence plain.bytes.items plain.condition_at plain.payload_at }
+        ensures { result ≡ launched (arc_value keys) iv sequence amount plain.bytes.items plain.condition_at plain.payload_at }
     {
         Unsealed {
             plain,
@@ -195,12 +195,17 @@ impl<A: Allocator + Copy> Unsealed<A> {
     }
 
     /// The amount of the Prepare, in units of the end's asset.
-    pub fn amount(&self) -> u64 {
+    #[tactic(auto, unfolding(crate::specs::Unsealed::launched))]
+    pub fn amount(&self) -> u64
+        ensures { result ≡ self.now.amount }
+    {
         self.amount
     }
 
     /// The length of the Prepare's bytes.
-    pub fn size(&self) -> usize {
+    pub fn size(&self) -> usize
+        ensures { result ≡ length self.now.bytes }
+    {
         self.plain.bytes.len()
     }
 

@@ -19,8 +19,14 @@ returns-clause-spelled g c =
     let behind = c.in_ok-plain.plain.payload_at in
     let sequence = c.args.load.now.sequence in
     let keys = arc_value c.args.keys.now in
-    let is = c.new.ensures ∙ ap (λ k. launched k c.args.iv c.sequence-2.result bytes at behind) c.in_ok-keys.ensures ∙ ap (λ n. launched keys c.args.iv n bytes at behind) c.sequence-2.ensures in
+    let is = c.new.ensures ∙ ap (λ k. launched k c.args.iv c.sequence-2.result c.amount.result bytes at behind) c.in_ok-keys.ensures
+    ∙ ap (λ n. launched keys c.args.iv n c.amount.result bytes at behind) c.sequence-2.ensures
+    ∙ ap (λ n. launched keys c.args.iv c.args.load.now.sequence n bytes at behind) c.amount.ensures in
     subst (λ (x : Launched). IsSpelled keys c.args.peer.now c.args.iv c.args.now c.args.load.now x.flight x.bytes) (sym is) (spelled keys c.args.peer.now c.args.iv c.args.now c.args.load.now bytes at behind (search rules) c.in_ok-plain.ensures.plain)
+
+pub returns-clause-amount : goal.returns-clause-amount
+unfolding launched
+returns-clause-amount g c = ap (λ (x : Launched). x.amount) c.new.ensures ∙ c.amount.ensures
 
 pub returns-clause-booked : goal.returns-clause-booked
 unfolding launched

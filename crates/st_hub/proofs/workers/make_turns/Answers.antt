@@ -40,7 +40,7 @@ loop-preserved g c =
     let filled = works_fill gives exchanges reads hears _ _ _ _ _ _ _ _ _ c.loop.invariant (rw c.if-not-fill.false at c.fill.ensures) in
     elim c.match-begin.branch [
       | in-Sends w ↦ works_at gives exchanges reads hears _ _ _ _ _ _ _ _ _ w.link-is w.watch-is
-          (works_use gives exchanges reads hears _ _ _ _ _ _ _ _ _ _ _ _ w.in-Sends.unsealed _ _ filled (begun_sends {A = g.row.A.Denot} reads _ _ _ _ _ w.in-Sends.unsealed (rw w.in-Sends.is at c.begin.ensures)) (rw w.seal-turn.ensures at w.exchange-outcome.ensures) (rw w.seal-turn.ensures at w.finish-cause.ensures) w.tell_limit.ensures w.tell.ensures)
+          (works_use gives exchanges reads hears _ _ _ _ _ _ _ _ _ _ _ _ w.in-Sends.unsealed _ _ filled (begun_sends {A = g.row.A.Denot} reads _ _ _ _ _ _ (rw w.in-Sends.is at c.begin.ensures)) (rw w.seal-turn.ensures at w.exchange-outcome.ensures) (rw w.seal-turn.ensures at w.finish-cause.ensures) w.tell_limit.ensures w.tell.ensures)
       | in-Idle w ↦ works_at gives exchanges reads hears _ _ _ _ _ _ _ _ _ w.link-is w.watch-is
           (works_keep gives exchanges reads hears _ _ _ _ _ _ _ _ _ filled (begun_idle {A = g.row.A.Denot} reads _ _ _ _ _ (rw w.in-Idle.is at c.begin.ensures)))
     ]

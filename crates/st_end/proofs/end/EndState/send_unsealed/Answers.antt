@@ -34,14 +34,17 @@ invariant_of-self-in-Err g c =
     let sends = sends_this c.self.inside.outbox c.next_load.new.outbox own c.in_ok-load.field-0 c.in-Some.load c.in-Some.is c.in_ok-load.ensures.sends in
     (same_lawful _ c.take_back.new.self c.launch.new.conditions c.self.invariant.0 (c.take_back.ensures.undoes c.self.inside.outbox own 32739 sends) c.in-Err.ensures.unchanged, c.self.invariant.1)
 
-pub returns-in-Ok-clause-goes : goal.returns-in-Ok-clause-goes
-returns-in-Ok-clause-goes g c =
+pub returns-in-Ok-clause-amount : goal.returns-in-Ok-clause-amount
+returns-in-Ok-clause-amount g c =
     let own = limits c.self.inside.intake.state in
     let sends = sends_this c.self.inside.outbox c.next_load.new.outbox own c.in_ok-load.field-0 c.in-Some.load c.in-Some.is c.in_ok-load.ensures.sends in
     let spelled = subst (λ (peer : List ℕ). IsSpelled (arc_value c.self.inside.keys) peer c.args.iv c.args.now c.in-Some.load c.in-Ok.sent.flight c.in-Ok.sent.bytes) c.as_str.ensures.value c.in-Ok.ensures.spelled in
     let open_still : c.self.inside.intake.state.closed ≡ false = search rules in
     let full = filled_this c.self.inside.outbox own c.in_ok-load.field-0 c.in-Some.load c.in-Some.is c.in_ok-load.ensures.filled in
-    goes _ c.args.self.now c.next_load.new.outbox c.launch.new.conditions c.in-Some.load c.args.iv c.in-Ok.sent.bytes c.args.now c.in-Ok.sent.flight c.self.view_is open_still sends full spelled c.in-Ok.ensures.booked
+    goes _ c.args.self.now c.next_load.new.outbox c.launch.new.conditions c.in-Some.load c.args.iv c.in-Ok.sent.bytes c.args.now c.in-Ok.sent.flight c.in-Ok.sent.amount c.self.view_is open_still sends full spelled c.in-Ok.ensures.booked c.in-Ok.ensures.amount
+
+pub returns-in-Ok-clause-goes : goal.returns-in-Ok-clause-goes
+returns-in-Ok-clause-goes g c = (returns-in-Ok-clause-amount g c).0
 
 pub returns-in-Err-clause-unchanged : goal.returns-in-Err-clause-unchanged
 returns-in-Err-clause-unchanged g c =
