@@ -10,8 +10,8 @@ ghost use Rattle.ilpstream_c.specs.Ilp.{IsPrepareIn, IsAnswerIn, ReadsPrepare, R
 use crate::handle::copy_out;
 use host_objects::{ARGUMENT, DONE};
 use st_ilp::{
-    Answer, IlpError, Prepare, answer_law, prepare_law, read_answer, read_prepare, write_answer,
-    write_prepare,
+    Answer, ErrorCode, IlpError, Prepare, answer_law, prepare_law, read_answer, read_prepare,
+    write_answer, write_prepare,
 };
 use st_oer::{length_size, utf8};
 use std::alloc::Global;
@@ -105,7 +105,11 @@ fn answer_in(bytes: &[u8]) -> Result<HostAnswer, IlpError>
     ensures { MatchResult result (λ t. (a : AnswerPacket) × ((answer_at bytes.now ≡ Ok a) × IsAnswerIn bytes.now a t)) (λ e. answer_at bytes.now ≡ Err e) }
 {
     answer_law();
-    match read_answer(bytes)? {
+    let answer = match read_answer(bytes) {
+        Ok(answer) => answer,
+        Err(error) => return Err(error),
+    };
+    match answer {
         Answer::Fulfill {
             fulfillment,
             payload,
@@ -251,9 +255,14 @@ pub extern "C" fn ilp_reject_write(
     let Some(message) = utf8(message) else {
         return ARGUMENT;
     };
-    let answer = match Answer::reject(*code, by, message, payload) {
-        Ok(answer) => answer,
-        Err(error) => return u32::from(error.number()),
+    let Some(code) = ErrorCode::new(*code) else {
+        return u32::from(IlpError::Code.number());
+    };
+    let answer = Answer::Reject {
+        code,
+        by,
+        message,
+        payload,
     };
     match write_answer(alloc, &answer) {
         Ok(text) => copy_out(&text, out, len),
