@@ -47,7 +47,7 @@ OTHERS = {
         "st_hop_books": "HEADER_LEN FRAME_HEADER_LEN VERSION BEGUN LEAST_LEN EMPTY_LEN USED COMMITS LIST "
         "IDENTITY_LEN BEFORE_IDENTITY BEFORE_ADDRESS AFTER_ADDRESS",
         "ilpstream_frames": "PREPARE",
-        "st_end": "PREPARE FULFILL REJECT",
+        "st_end": "PREPARE FULFILL REJECT CONDITION",
         "st_ilp": "PREPARE FULFILL REJECT",
         "ilpstream_c": "FULFILL REJECT",
     },
