@@ -25,7 +25,7 @@ WEIGHTS = {
     "st_world_parts": 190, "ilpstream_settings": 184, "st_hop": 183, "st_world_quiet": 175, "st_aes": 165, "ilpstream": 161,
     "ilpstream_frames": 158, "ilpstream_log": 137, "st_http": 130, "ilpstream_serving": 124, "st_ilp": 112, "st_queues": 100,
     "st_reassembly": 84, "ilpstream_ledger": 83, "st_hop_desk": 79, "st_frames": 76, "ilpstream_main": 62, "st_unacked": 62, "st_oer": 57,
-    "st_file": 48, "st_devices": 41, "st_keys": 38, "st_links": 25, "ilpstream_explain": 12, "st_streams": 6,
+    "st_file": 48, "st_devices": 41, "st_keys": 38, "st_links": 25, "st_lanes": 60, "ilpstream_explain": 12, "st_streams": 6,
 }
 OTHER = 60
 # Memory in bytes: what a check takes at most, and what each further job of it takes.
