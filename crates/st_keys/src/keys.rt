@@ -17,14 +17,20 @@ use std::marker::Model;
 pub struct Keys {
     encryption: Key,
     fulfillment: [u8; 32],
+    /// What HMAC-SHA256 has after the blocks of the fulfillment key, so that no call computes it again.
+    keyed: Keyed,
 }
 
 impl Model for Keys {
     ghost use Rattle.st_keys.specs.Keys.{DerivedKeys};
+    ghost use Rattle.st_keys.specs.Mac.{block_key};
+    ghost use Rattle.st_lanes.specs.Mac.{IsKeyedBy};
 
     ghost Value = { DerivedKeys };
 
     ghost view = { λ k. record { encryption_key = k.encryption; fulfillment_key = k.fulfillment } };
+
+    ghost invariant = { λ k. IsKeyedBy (block_key k.fulfillment) k.keyed };
 }
 
 impl Keys {
@@ -33,9 +39,11 @@ impl Keys {
     pub fn of(secret: [u8; 32]) -> Keys
         ensures { result ≡ keys_of secret }
     {
+        let fulfillment = hmac(&secret, b"ilp_stream_fulfillment");
         Keys {
             encryption: Key::new(hmac(&secret, b"ilp_stream_encryption")),
-            fulfillment: hmac(&secret, b"ilp_stream_fulfillment"),
+            fulfillment,
+            keyed: Keyed::of(block_key(&fulfillment)),
         }
     }
 
@@ -61,7 +69,7 @@ impl Keys {
     pub fn fulfillment(&self, payload: &[u8]) -> [u8; 32]
         ensures { result ≡ fulfillment self.now payload.now }
     {
-        hmac(&self.fulfillment, payload)
+        self.keyed.hmac(payload)
     }
 
     /// The fulfillments of the Prepares with these payloads (RFC 0029), each as `fulfillment` gives it, in the order of the
@@ -74,7 +82,7 @@ impl Keys {
         requires places { length out.old ≡ length payloads.now }
         ensures { out.new ≡ map (fulfillment self.now) (map (λ p. p.now) payloads.now) }
     {
-        Keyed::of(block_key(&self.fulfillment)).hmacs(payloads, out);
+        self.keyed.hmacs(payloads, out);
     }
 }
 
