@@ -71,10 +71,10 @@ enum Close {
 
 /// A stream of the client.
 struct Outgoing<'a> {
-    /// What is still to be sent, in pieces of one frame, each with its offset.
+    /// What is still to be sent, in chunks of one frame, each with its offset.
     due: VecDeque<(u64, &'a [u8])>,
     unacknowledged: usize,
-    /// Where the bytes end that were sent, and where the server lets them end.
+    /// The end of the bytes that were sent, and the end that the server allows.
     sent: u64,
     limit: u64,
     close: Close,
@@ -82,11 +82,11 @@ struct Outgoing<'a> {
 
 impl<'a> Outgoing<'a> {
     fn new(input: &'a [u8]) -> Outgoing<'a> {
-        let due = input.chunks(FRAME).enumerate().map(|(i, piece)| ((i * FRAME) as u64, piece)).collect();
+        let due = input.chunks(FRAME).enumerate().map(|(i, chunk)| ((i * FRAME) as u64, chunk)).collect();
         Outgoing { due, unacknowledged: input.len(), sent: 0, limit: FIRST_STREAM_LIMIT, close: Close::Due }
     }
 
-    /// The next piece, if a packet has room for it, and its stream and the connection, by what its end may rise, allow it.
+    /// The next chunk, if a packet has this room for it, and both limits allow it. The sum of the streams' ends may rise by `spare`.
     fn take(&mut self, room: usize, spare: &mut u64) -> Option<(u64, &'a [u8])> {
         let (offset, bytes) = *self.due.front()?;
         let end = offset + bytes.len() as u64;
@@ -138,7 +138,7 @@ impl<'a> Client<'a> {
         self.streams.iter().all(|it| it.close == Close::Fulfilled)
     }
 
-    /// What the next Prepare carries: closes, and one piece of each stream in turn, as long as there is room.
+    /// What the next Prepare carries: closes, and one chunk of each stream in turn, as long as there is room.
     fn load(&mut self) -> Vec<Frame<'a>> {
         let mut room = MOST_PLAIN - PACKET_HEAD;
         let mut spare = self.limit.saturating_sub(self.streams.iter().map(|it| it.sent).sum());
@@ -181,7 +181,7 @@ impl<'a> Client<'a> {
         Some((self.sequence, bytes))
     }
 
-    /// Takes the answer to a Prepare; `None` if there is none.
+    /// Accepts the answer to a Prepare; `None` if there is none.
     pub fn answered(&mut self, sequence: u64, answer: Option<&[u8]>) {
         let Some(flight) = self.flights.remove(&sequence) else { return };
         match answer.map(read_answer) {
@@ -360,7 +360,7 @@ impl Server {
         }
     }
 
-    /// Where the ends of all streams together may be.
+    /// The most that the ends of all streams may be together.
     fn limit(&self) -> u64 {
         self.streams.values().map(|it| it.read.len() as u64).sum::<u64>() + CONNECTION_WINDOW
     }

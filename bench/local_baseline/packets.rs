@@ -6,7 +6,7 @@ use std::ops::Range;
 pub const MOST_DATA: usize = 32_767;
 pub const MOST_PLAIN: usize = MOST_DATA - 28;
 
-/// Bytes that are no packet.
+/// Bytes that are not a packet.
 #[derive(Debug)]
 pub struct Malformed;
 
@@ -131,7 +131,7 @@ fn days_to(year: i64, month: i64, day: i64) -> i64 {
     year.div_euclid(400) * 146_097 + years * 365 + years / 4 - years / 100 + day_of_year - 719_468
 }
 
-/// The year, the month and the day that begin so many days after 1970-01-01.
+/// The year, the month and the day, by the days from 1970-01-01.
 fn date_after(days: i64) -> (i64, i64, i64) {
     let days = days + 719_468;
     let (era, days) = (days.div_euclid(146_097), days.rem_euclid(146_097));

@@ -27,18 +27,23 @@ fn schedule(block: &[u8; 64]) -> [u32; 64] {
     words
 }
 
+/// Absorbs a block. Of the eight words of the state a round changes two, and the next round has each under the next name.
 fn compress(state: &mut [u32; 8], block: &[u8; 64]) {
-    let [mut a, mut b, mut c, mut d, mut e, mut f, mut g, mut h] = *state;
-    for (round, word) in ROUNDS.iter().zip(schedule(block)) {
-        let sum = e.rotate_right(6) ^ e.rotate_right(11) ^ e.rotate_right(25);
-        let choice = (e & f) ^ (!e & g);
-        let first = h.wrapping_add(sum).wrapping_add(choice).wrapping_add(*round).wrapping_add(word);
-        let sum = a.rotate_right(2) ^ a.rotate_right(13) ^ a.rotate_right(22);
-        let majority = (a & b) ^ (a & c) ^ (b & c);
-        (h, g, f, e) = (g, f, e, d.wrapping_add(first));
-        (d, c, b, a) = (c, b, a, first.wrapping_add(sum).wrapping_add(majority));
+    let words = schedule(block);
+    let mut now = *state;
+    for (constants, words) in ROUNDS.as_chunks::<8>().0.iter().zip(words.as_chunks::<8>().0) {
+        for i in 0..8 {
+            let [a, b, c, d, e, f, g, h] = std::array::from_fn(|name| (name + 8 - i) % 8);
+            let choice = now[g] ^ (now[e] & (now[f] ^ now[g]));
+            let sum = now[e].rotate_right(6) ^ now[e].rotate_right(11) ^ now[e].rotate_right(25);
+            let first = now[h].wrapping_add(constants[i].wrapping_add(words[i])).wrapping_add(choice).wrapping_add(sum);
+            let majority = (now[a] & now[b]) ^ (now[c] & (now[a] ^ now[b]));
+            let sum = now[a].rotate_right(2) ^ now[a].rotate_right(13) ^ now[a].rotate_right(22);
+            now[d] = now[d].wrapping_add(first);
+            now[h] = first.wrapping_add(sum).wrapping_add(majority);
+        }
     }
-    for (word, new) in state.iter_mut().zip([a, b, c, d, e, f, g, h]) {
+    for (word, new) in state.iter_mut().zip(now) {
         *word = word.wrapping_add(new);
     }
 }
