@@ -1,6 +1,6 @@
 //! What an end does to each packet's bytes, alone.
 
-use st_frames::Frame;
+use st_frames::{Frame, PacketKind};
 use st_keys::{KeyError, Keys, condition};
 use std::alloc::Global;
 
@@ -13,8 +13,8 @@ fn seal_one(alloc: Global, keys: &Keys, piece: &[u8], number: u64) -> Result<boo
     };
     let mut iv = [0; 12];
     iv[4..].copy_from_slice(&number.to_be_bytes());
-    let mut payload = keys.seal_packet(alloc, iv, 12, number, 0, &[data])?;
-    let packet = keys.open_packet(&mut payload, 12)?;
+    let mut payload = keys.seal_packet(alloc, iv, PacketKind::Prepare, number, 0, &[data])?;
+    let packet = keys.open_packet(&mut payload, PacketKind::Prepare)?;
     Ok(packet.sequence == number)
 }
 

@@ -2,10 +2,11 @@
 use Rattle.std.proofs.Common.{◌≡◌, ◌++◌, ℕ, List, [], Ok, sym, ap, ◌∙◌}
 use Rattle.st_oer.specs.Laws.{IsBytes}
 use Rattle.st_frames.specs.Frames.{Known, Packet}
+use Rattle.st_frames.specs.Kinds.{kind_number}
 use Rattle.st_frames.specs.Reading.{packet_at}
 use Rattle.st_frames.specs.Laws.{PacketReads}
 use Rattle.host_objects.specs.declared.packet.HostPacket.{HostPacket}
-use Rattle.host_objects.specs.Packets.{kind_number, placed, packet_seen, AreKept, IsNewPacket, IsReadPacket}
+use Rattle.host_objects.specs.Packets.{placed, packet_seen, AreKept, IsNewPacket, IsReadPacket}
 
 -- if there were no frames before, those that are added are all of them
 pub all_kept : (kind sequence amount : ℕ) (frames : List (ℕ × Known)) (new after : HostPacket) → IsNewPacket kind sequence amount new → AreKept new after frames
@@ -18,10 +19,10 @@ all_kept kind sequence amount frames new after is kept =
     let f : (packet_seen after).frames ≡ frames = kept.frames_are ∙ ap (λ (p : Packet). p.frames ++ frames) same in
     λ i. record { kind = k i; sequence = s i; amount = a i; frames = f i }
 
-pub read_back : (number kind : ℕ) (bytes : List ℕ) (p : Packet) (new after : HostPacket) → PacketReads → IsBytes bytes → number ≡ kind → packet_at number bytes ≡ Ok p
+pub read_back : (kind : ℕ) (bytes : List ℕ) (p : Packet) (new after : HostPacket) → PacketReads → IsBytes bytes → packet_at kind bytes ≡ Ok p
     → IsNewPacket kind p.sequence p.amount new → AreKept new after p.frames → IsReadPacket kind bytes after
-read_back number kind bytes p new after reads fits same read is kept =
-    let k : kind ≡ p.kind = sym ((reads.found number bytes p fits read).1 ∙ same) in record {
-      read_is = sym (ap (λ n. packet_at n bytes) same) ∙ read ∙ ap Ok (sym (all_kept kind p.sequence p.amount p.frames new after is kept ∙ (λ i. record { kind = k i; sequence = p.sequence; amount = p.amount; frames = p.frames })));
+read_back kind bytes p new after reads fits read is kept =
+    let k : kind ≡ p.kind = sym (reads.found kind bytes p fits read).1 in record {
+      read_is = read ∙ ap Ok (sym (all_kept kind p.sequence p.amount p.frames new after is kept ∙ (λ i. record { kind = k i; sequence = p.sequence; amount = p.amount; frames = p.frames })));
       output_is = ap (λ v. v.items) kept.output_is ∙ is.output_is;
     }

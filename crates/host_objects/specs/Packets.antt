@@ -1,30 +1,18 @@
 -- A plain STREAM packet and its frames, as a host has them.
-use Rattle.std.specs.Prelude.{◌≡◌, ◌⊎◌, ◌≤◌, ◌++◌, ◌∷◌, ◌&&◌, ℕ, Bool, true, false, nat_le, List, [], length, map, Ok, Err, string_bytes, Option, Some, None, Result, slice_get, MatchOption, MatchResult}
+use Rattle.std.specs.Prelude.{◌≡◌, ◌⊎◌, ◌≤◌, ◌++◌, ◌∷◌, ℕ, true, false, List, [], length, map, Ok, Err, string_bytes, Option, Some, None, Result, slice_get, MatchOption, MatchResult}
 use Rattle.st_frames.specs.declared.error.FrameError.{FrameError}
 use Rattle.st_frames.specs.declared.error.FrameError.TheVariants.{NoMemory, FrameFormat}
 use Rattle.st_frames.specs.Frames.{Known, Packet}
 use Rattle.st_frames.specs.Frames as known
+use Rattle.st_frames.specs.Kinds.{kind_number}
 use Rattle.st_frames.specs.Reading.{packet_at}
 use Rattle.st_frames.specs.Written.{is_unwritable, written}
 use Rattle.host_objects.specs.declared.frame.KeptFrame.{KeptFrame}
 use Rattle.host_objects.specs.declared.frame.KeptFrame.TheVariants.{ConnectionClose, ConnectionNewAddress, ConnectionMaxData, ConnectionDataBlocked, StreamClose, StreamMoney, StreamMaxMoney, StreamMoneyBlocked, StreamData, StreamMaxData, StreamDataBlocked}
-use Rattle.host_objects.specs.declared.packet.PacketKind.{PacketKind}
-use Rattle.host_objects.specs.declared.packet.PacketKind.TheVariants.{Prepare, Fulfill, Reject}
 use Rattle.host_objects.specs.declared.packet.PlacedFrame.{PlacedFrame}
 use Rattle.host_objects.specs.declared.packet.HostPacket.{HostPacket}
 use Rattle.st_frames.specs.Seen.{seen_at}
 use Rattle.st_frames.specs.declared.frame.Frame.{Frame}
-
--- ---- kinds
-
-abbrev pub kind_number : PacketKind → ℕ
-kind_number Prepare = 12
-kind_number Fulfill = 13
-kind_number Reject = 14
-
--- an ILP packet that may carry a STREAM packet
-abbrev pub is_kind : ℕ → Bool
-is_kind n = nat_le 12 n && nat_le n 14
 
 -- ---- frames
 

@@ -28,4 +28,5 @@ pub use hop::{HostHop, Settling, Way};
 pub use keys::HostKeys;
 pub use message::{HostMessage, HostSide, Progress};
 pub use object::Object;
-pub use packet::{HostPacket, PacketKind, PlacedFrame};
+pub use packet::{HostPacket, PlacedFrame};
+pub use st_frames::PacketKind;

@@ -1,52 +1,17 @@
 //! A plain STREAM packet (RFC 0029), whose frames a host adds and takes one by one.
 
 ghost use Rattle.std.specs.Prelude.{◌≡◌, ◌≤◌, map, true, false, None, Some, Ok, Err, OnOk, OnErr, IfOk, MatchOption, MatchResult};
+ghost use Rattle.st_frames.specs.Kinds.{kind_number};
 ghost use Rattle.st_frames.specs.Seen.{seen};
 ghost use Rattle.st_frames.specs.Written.{written, is_unwritable};
-ghost use Rattle.host_objects.specs.Packets.{kept, placed, kind_number, is_kind, packet_seen, IsNewPacket, IsSamePacket, IsKept, AreKept, IsPushed, RefusesToPush, ReadsPacket, IsFrameAt, WritesOut};
+ghost use Rattle.host_objects.specs.Packets.{kept, placed, packet_seen, IsNewPacket, IsSamePacket, IsKept, AreKept, IsPushed, RefusesToPush, ReadsPacket, IsFrameAt, WritesOut};
 
 use crate::frame::KeptFrame;
-use st_frames::{Frame, FrameError, Frames, StreamPacket, packet_law, read_packet, write_packet};
+use st_frames::{
+    Frame, FrameError, Frames, PacketKind, StreamPacket, packet_law, read_packet, write_packet,
+};
 use st_oer::is_address;
 use std::alloc::{AllocError, Global};
-
-/// The ILP packet that carries a STREAM packet (RFC 0027).
-#[derive(Clone, Copy, Debug, PartialEq, Eq)]
-pub enum PacketKind {
-    /// Number 12.
-    Prepare,
-    /// Number 13.
-    Fulfill,
-    /// Number 14.
-    Reject,
-}
-
-impl PacketKind {
-    /// The kind of this number: 12, 13 or 14. `None` for every other number.
-    pub fn of(number: u32) -> Option<PacketKind>
-        ensures { MatchOption result (is_kind number ≡ false) (λ kind. (is_kind number ≡ true) × (kind_number kind ≡ number)) }
-    {
-        match number {
-            12 => Some(PacketKind::Prepare),
-            13 => Some(PacketKind::Fulfill),
-            14 => Some(PacketKind::Reject),
-            _ => None,
-        }
-    }
-
-    /// Its number.
-    pub fn number(self) -> u8
-        ensures number { result ≡ kind_number self }
-        ensures from_prepare { 12 ≤ result }
-        ensures to_reject { result ≤ 14 }
-    {
-        match self {
-            PacketKind::Prepare => 12,
-            PacketKind::Fulfill => 13,
-            PacketKind::Reject => 14,
-        }
-    }
-}
 
 /// A frame with its index.
 #[derive(Drop)]
@@ -108,7 +73,7 @@ impl HostPacket {
             sequence,
             amount,
             frames,
-        } = read_packet(bytes, kind.number())?;
+        } = read_packet(bytes, kind)?;
         let mut packet = HostPacket::new(alloc, kind, sequence, amount);
         packet.keep_all(alloc, frames)?;
         Ok(packet)
@@ -177,13 +142,7 @@ impl HostPacket {
         ensures unchanged { OnErr result (self.new ≡ self.old) }
     {
         let frames = self.lent(alloc)?;
-        let bytes = write_packet(
-            alloc,
-            self.kind.number(),
-            self.sequence,
-            self.amount,
-            &frames,
-        )?;
+        let bytes = write_packet(alloc, self.kind, self.sequence, self.amount, &frames)?;
         drop(frames);
         self.output = bytes;
         Ok(())

@@ -2,11 +2,12 @@
 use Rattle.std.proofs.Common.{◌≡◌, ◌⊎◌, ℕ, List, true, Option, Some, None, subst, inl, inr}
 use Rattle.std.specs.Prelude.{is_none}
 use Rattle.st_keys.specs.Keys.{keys_of}
+use Rattle.st_frames.specs.Kinds.{is_kind}
 use Rattle.st_http.specs.Verdict.{request, response}
 use Rattle.host_objects.specs.Codes.{done}
 use Rattle.host_objects.specs.KeyRings.{IsNewKeys}
 use Rattle.host_objects.specs.Messages.{IsNewMessage}
-use Rattle.host_objects.specs.Packets.{is_kind, IsNewPacket, IsReadPacket}
+use Rattle.host_objects.specs.Packets.{IsNewPacket, IsReadPacket}
 use Rattle.host_objects.specs.declared.object.Object.{Object}
 use Rattle.host_objects.specs.declared.object.Object.TheVariants.{Keys, Message, Packet}
 use Rattle.host_objects.specs.declared.keys.HostKeys.{HostKeys}

@@ -4,11 +4,12 @@ use Rattle.st_frames.specs.declared.error.FrameError.{FrameError}
 use Rattle.st_frames.specs.declared.error.FrameError.TheVariants.{NoMemory}
 use Rattle.st_frames.specs.Errors.{number}
 use Rattle.st_frames.specs.Frames.{Known}
+use Rattle.st_frames.specs.Kinds.{kind_number, is_kind}
 use Rattle.st_frames.specs.Reading.{packet_at}
 use Rattle.st_frames.specs.Written.{written}
 use Rattle.host_objects.specs.Codes.{done, argument}
 use Rattle.host_objects.specs.Objects.{packet_in}
-use Rattle.host_objects.specs.Packets.{kept, kind_number, is_kind, packet_seen, IsNewPacket, IsReadPacket, IsPushed, RefusesToPush}
+use Rattle.host_objects.specs.Packets.{kept, packet_seen, IsNewPacket, IsReadPacket, IsPushed, RefusesToPush}
 use Rattle.host_objects.specs.declared.object.Object.{Object}
 use Rattle.host_objects.specs.declared.object.Object.TheVariants.{Packet}
 use Rattle.host_objects.specs.declared.packet.HostPacket.{HostPacket}

@@ -69,7 +69,7 @@ pub(crate) fn data_of(frame: Frame<'_>) -> &[u8]
 }
 
 /// A number as a byte. `None` exactly if it is above 255.
-fn byte(number: u32) -> Option<u8>
+pub(crate) fn byte(number: u32) -> Option<u8>
     ensures { MatchOption result (is_byte number ≡ false) (λ byte. (is_byte number ≡ true) × (byte ≡ number)) }
 {
     u8::try_from(number).ok()

@@ -1,11 +1,12 @@
 //! Calls on a plain STREAM packet (RFC 0029), whose frames are added and read one by one.
 
-ghost use Rattle.std.specs.Prelude.{◌≡◌, true, MatchResult};
-ghost use Rattle.host_objects.specs.Packets.{IsReadPacket, is_kind};
+ghost use Rattle.std.specs.Prelude.{◌≡◌, true, false, MatchOption, MatchResult};
+ghost use Rattle.st_frames.specs.Kinds.{kind_number, is_kind};
+ghost use Rattle.host_objects.specs.Packets.{IsReadPacket};
 ghost use Rattle.ilpstream_c.specs.Frames as frames;
 ghost use Rattle.ilpstream_c.specs.Packets.{OnPacket, IsPacketMade, IsPacketRead, RefusesToRead, Heads, Pushes, Shows, Puts, OnPacketWith};
 
-use crate::frame::{HostFrame, data_of, fields_of, frame_given};
+use crate::frame::{HostFrame, byte, data_of, fields_of, frame_given};
 use crate::handle::{is_empty, put_new};
 use host_objects::{ARGUMENT, DONE, Handle, HostPacket, MISUSE, Object, PacketKind};
 use st_frames::FrameError;
@@ -36,6 +37,13 @@ pub struct HostHeader {
     pub kind: u32,
 }
 
+/// The kind of this number: 12, 13 or 14. `None` for every other number.
+fn kind_of(number: u32) -> Option<PacketKind>
+    ensures { MatchOption result (is_kind number ≡ false) (λ kind. (is_kind number ≡ true) × (kind_number kind ≡ number)) }
+{
+    PacketKind::of(byte(number)?)
+}
+
 /// Makes a packet without frames in an empty handle. `kind` is that of the ILP packet that carries it: 12, 13 or 14.
 ///
 /// `MISUSE` if the handle is not empty; `ARGUMENT` for another kind; 25 if memory is refused.
@@ -53,7 +61,7 @@ pub extern "C" fn ilp_packet_new(
         return MISUSE;
     }
     let no_memory = u32::from(FrameError::NoMemory.number());
-    match PacketKind::of(kind) {
+    match kind_of(kind) {
         Some(kind) => {
             let packet = HostPacket::new(alloc, kind, sequence, amount);
             put_new(alloc, handle, Object::Packet(packet), no_memory)
@@ -66,7 +74,7 @@ pub extern "C" fn ilp_packet_new(
 fn read(alloc: Global, kind: u32, bytes: &[u8]) -> Result<HostPacket, u32>
     ensures { MatchResult result (λ p. (is_kind kind ≡ true) × IsReadPacket kind bytes.now p) (λ code. RefusesToRead kind bytes.now code) }
 {
-    let Some(kind) = PacketKind::of(kind) else {
+    let Some(kind) = kind_of(kind) else {
         return Err(ARGUMENT);
     };
     match HostPacket::read(alloc, kind, bytes) {

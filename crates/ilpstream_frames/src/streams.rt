@@ -12,16 +12,13 @@ ghost use Rattle.ilpstream_frames.specs.Inboxes.{opening, is_stream, after_piece
 ghost use Rattle.ilpstream_frames.specs.Drafts.{over, StandFor, IsPieceError, IsPacketError};
 
 use crate::error::LineError;
-use st_frames::{Frame, Frames, read_packet};
+use st_frames::{Frame, Frames, PacketKind, read_packet};
 use st_reassembly::{Inbox, InboxError};
 use std::alloc::{AllocError, Allocator};
 use std::marker::Model;
 
 /// The number of streams of a connection, which are numbered from 1 (a limit of this profile of RFC 0029).
 pub const STREAMS: usize = 64;
-
-/// The ILP packet type of a Prepare (RFC 0027).
-const PREPARE: u8 = 12;
 
 /// The inboxes of the streams that a frame named.
 #[derive(Drop)]
@@ -275,7 +272,7 @@ impl<A: Allocator + Copy> Streams<A> {
         ensures refused { IfErr result (IsPacketError self.old (by_packet (packet_at prepare bytes.now))) }
         ensures unchanged { OnErr result (self.new ≡ self.old) }
     {
-        let packet = read_packet(bytes, PREPARE)?;
+        let packet = read_packet(bytes, PacketKind::Prepare)?;
         match pieces_of(packet.frames.again()) {
             Pieces::None => Ok(()),
             Pieces::One {

@@ -13,7 +13,7 @@ use crate::back::{Back, amounts_in, raise_from, read_back};
 use crate::end::EndState;
 use crate::failed::Failed;
 use crate::flight::{Flight, Open};
-use crate::reply::{FULFILL, REJECT};
+use st_frames::PacketKind;
 use st_ilp::ErrorCode;
 use st_keys::{Keys, condition};
 use st_sender::Outbox;
@@ -60,7 +60,13 @@ fn take_answer<A: Allocator + Copy>(
                 return false;
             }
             outbox.acknowledged(flight.sequence);
-            raise_from(outbox, keys, FULFILL, flight.sequence, &mut bytes[start..]);
+            raise_from(
+                outbox,
+                keys,
+                PacketKind::Fulfill,
+                flight.sequence,
+                &mut bytes[start..],
+            );
             true
         }
         Back::Reject {
@@ -71,7 +77,13 @@ fn take_answer<A: Allocator + Copy>(
         } => {
             *last = Some(Failed::rejected(code, by, message));
             take_reject(outbox, flight.sequence, code, &bytes[start..]);
-            raise_from(outbox, keys, REJECT, flight.sequence, &mut bytes[start..]);
+            raise_from(
+                outbox,
+                keys,
+                PacketKind::Reject,
+                flight.sequence,
+                &mut bytes[start..],
+            );
             false
         }
         Back::Unreadable => {

@@ -3,12 +3,13 @@
 ghost use Rattle.std.specs.Prelude.{◌≡◌, ◌≤◌, ◌-◌, length};
 ghost use Rattle.st_keys.specs.Sealed.{opened};
 ghost use Rattle.st_frames.specs.Frames.{frame_of};
+ghost use Rattle.st_frames.specs.Kinds.{kind_number};
 ghost use Rattle.std.specs.Prelude.{map};
 ghost use Rattle.st_sender.specs.Answering.{after_all_told};
 ghost use Rattle.st_end.specs.Answers as answers;
 ghost use Rattle.st_end.specs.Inside.{IsBack};
 
-use st_frames::Frames;
+use st_frames::{Frames, PacketKind};
 use st_ilp::{Answer, ErrorCode, answer_law, read_answer};
 use st_keys::Keys;
 use st_oer::Cut;
@@ -94,13 +95,11 @@ pub(crate) fn raise_all<A: Allocator + Copy>(outbox: &mut Outbox<A>, mut frames:
 pub(crate) fn raise_from<A: Allocator + Copy>(
     outbox: &mut Outbox<A>,
     keys: &Keys,
-    kind: u8,
+    kind: PacketKind,
     sequence: u64,
     payload: &mut [u8],
 )
-    requires from_prepare { 12 ≤ kind }
-    requires to_reject { kind ≤ 14 }
-    ensures { outbox.new ≡ answers.raised outbox.old sequence (opened keys.now kind payload.old) }
+    ensures { outbox.new ≡ answers.raised outbox.old sequence (opened keys.now (kind_number kind) payload.old) }
 {
     if let Ok(packet) = keys.open_packet(payload, kind) {
         if packet.sequence == sequence {

@@ -8,8 +8,7 @@ ghost use Rattle.st_frames.specs.Packets.{packet_of};
 ghost use Rattle.st_keys.specs.Sealed.{ciphertext_of, packet_in};
 ghost use Rattle.st_end.specs.Opened.{IsPayloadOf, IsOpenedBy};
 
-use crate::reply::PREPARE;
-use st_frames::{StreamPacket, read_packet};
+use st_frames::{PacketKind, StreamPacket, read_packet};
 use st_ilp::{Prepare, read_prepare};
 use st_keys::{KeyError, Keys, OVERHEAD, condition};
 use std::alloc::Allocator;
@@ -57,7 +56,7 @@ pub(crate) fn read_plain(text: &[u8]) -> Result<StreamPacket<'_>, KeyError>
     requires { OVERHEAD ≤ length text.now }
     ensures { Gives packet_of result (packet_in prepare_kind (Ok (ciphertext_of text.now))) }
 {
-    match read_packet(&text[OVERHEAD..], PREPARE) {
+    match read_packet(&text[OVERHEAD..], PacketKind::Prepare) {
         Ok(packet) => Ok(packet),
         Err(fault) => Err(KeyError::Packet(fault)),
     }

@@ -23,8 +23,8 @@ use crate::end::EndState;
 use crate::error::EndError;
 use crate::opened::{Opened, Payload, read_plain};
 use crate::received::Received;
-use crate::reply::{FULFILL, REJECT, code_unopened, fulfill_bytes, reject_bytes, reply_payload};
-use st_frames::{Frame, StreamPacket};
+use crate::reply::{code_unopened, fulfill_bytes, reject_bytes, reply_payload};
+use st_frames::{Frame, PacketKind, StreamPacket};
 use st_ilp::{ErrorCode, Moment, Prepare, read_prepare};
 use st_keys::Keys;
 use st_oer::is_within;
@@ -62,7 +62,7 @@ fn fulfill_reply<'f, A: Allocator + Copy>(
     let Ok(frames) = intake.reply_frames(packet, Some(plan)) else {
         return Err(EndError::NoMemory);
     };
-    let payload = reply_payload(alloc, keys, FULFILL, prepare, packet, &frames)?;
+    let payload = reply_payload(alloc, keys, PacketKind::Fulfill, prepare, packet, &frames)?;
     let bytes = fulfill_bytes(alloc, preimage, &payload)?;
     let peer = match last_address(packet.frames.again()) {
         Some(address) => Some(String::from_str(alloc, address)?),
@@ -167,7 +167,14 @@ impl<A: Allocator + Copy> EndState<A> {
         let Ok(frames) = self.intake.reply_frames(packet, None) else {
             return Err(EndError::NoMemory);
         };
-        let payload = reply_payload(self.alloc, &self.keys, REJECT, prepare, packet, &frames)?;
+        let payload = reply_payload(
+            self.alloc,
+            &self.keys,
+            PacketKind::Reject,
+            prepare,
+            packet,
+            &frames,
+        )?;
         let bytes = reject_bytes(
             self.alloc,
             ErrorCode::APPLICATION_ERROR,

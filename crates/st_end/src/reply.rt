@@ -8,6 +8,7 @@ ghost use Rattle.st_ilp.specs.Spelling.{answer_text};
 ghost use Rattle.st_frames.specs.Seen.{seen};
 ghost use Rattle.st_ilp.specs.Seen.{prepare_seen};
 ghost use Rattle.st_frames.specs.Frames.{frames_of};
+ghost use Rattle.st_frames.specs.Kinds.{kind_number};
 ghost use Rattle.st_frames.specs.Packets.{packet_of};
 ghost use Rattle.st_keys.specs.Sealed.{iv_of};
 ghost use Rattle.st_receiver.specs.Streams.{Receiving};
@@ -15,17 +16,10 @@ ghost use Rattle.st_receiver.specs.Limits.{reply_frames};
 ghost use Rattle.st_end.specs.Receiving as receiving;
 
 use crate::error::EndError;
-use st_frames::{Frame, StreamPacket};
+use st_frames::{Frame, PacketKind, StreamPacket};
 use st_ilp::{Answer, ErrorCode, IlpError, Prepare, write_answer};
 use st_keys::{KeyError, Keys, payload_lengths};
 use std::alloc::Allocator;
-
-/// The kind of a Prepare, and of the packet that it carries (RFC 0027).
-pub(crate) const PREPARE: u8 = 12;
-/// The kind of a Fulfill.
-pub(crate) const FULFILL: u8 = 13;
-/// The kind of a Reject.
-pub(crate) const REJECT: u8 = 14;
 
 /// The code of a Reject of a payload that did not open.
 pub(crate) fn code_unopened(fault: KeyError) -> ErrorCode
@@ -56,18 +50,16 @@ fn reply_iv(payload: &[u8]) -> [u8; 12]
 pub(crate) fn reply_payload<A: Allocator + Copy>(
     alloc: A,
     keys: &Keys,
-    kind: u8,
+    kind: PacketKind,
     prepare: &Prepare<'_>,
     packet: &StreamPacket<'_>,
     frames: &[Frame<'_>],
 ) -> Result<Vec<u8, A>, EndError>
     requires long { 12 ≤ length prepare.now.payload.now }
-    requires from_prepare { 12 ≤ kind }
-    requires to_reject { kind ≤ 14 }
     requires told { (r : Receiving) × (map seen frames.now ≡ reply_frames r (frames_of (packet_of packet.now))) }
     ensures only_memory { IsOkUnless result EndError.NoMemory }
     ensures sealed { (r : Receiving) → map seen frames.now ≡ reply_frames r (frames_of (packet_of packet.now))
-        → IfOk result (λ v. v.items ≡ receiving.reply_payload keys.now kind (prepare_seen prepare.now) (packet_of packet.now) r) }
+        → IfOk result (λ v. v.items ≡ receiving.reply_payload keys.now (kind_number kind) (prepare_seen prepare.now) (packet_of packet.now) r) }
     ensures fits { IfOk result (λ v. is_data v.items ≡ true) }
 {
     payload_lengths();

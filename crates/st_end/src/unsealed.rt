@@ -15,8 +15,7 @@ ghost use Rattle.st_end.specs.Inside.{IsSpellable, IsPlain, front_of, middle_of}
 
 use crate::error::EndError;
 use crate::flight::{Flight, Open};
-use crate::reply::PREPARE;
-use st_frames::FrameError;
+use st_frames::{FrameError, PacketKind};
 use st_ilp::{IlpError, Moment, Prepare, write_prepare};
 use st_keys::{Keys, OVERHEAD, condition, plain_payload};
 use st_oer::length_size;
@@ -44,7 +43,13 @@ fn plain_load<A: Allocator + Copy>(alloc: A, load: &Load<A>) -> Result<Vec<u8, A
     let Ok(frames) = load.frames() else {
         return Err(EndError::NoMemory);
     };
-    match plain_payload(alloc, PREPARE, load.sequence(), load.least(), &frames) {
+    match plain_payload(
+        alloc,
+        PacketKind::Prepare,
+        load.sequence(),
+        load.least(),
+        &frames,
+    ) {
         Ok(payload) => Ok(payload),
         Err(FrameError::NoMemory) => Err(EndError::NoMemory),
         Err(_) => unreachable!(),

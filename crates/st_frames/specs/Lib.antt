@@ -2,6 +2,7 @@ pub mod Frames
 pub mod Told
 pub mod Table
 pub mod Errors
+pub mod Kinds
 pub mod Contents
 pub mod Reading
 pub mod Relation

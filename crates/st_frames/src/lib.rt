@@ -9,6 +9,7 @@
 mod error;
 mod field;
 mod frame;
+mod kind;
 mod laws;
 mod length;
 mod packet;
@@ -18,6 +19,7 @@ mod writing;
 
 pub use error::FrameError;
 pub use frame::Frame;
+pub use kind::PacketKind;
 pub use laws::{frames_law, packet_law, prefix_law, reading_wants_no_memory, written_law};
 pub use length::packet_len;
 pub use packet::{Frames, MAX_PACKET, StreamPacket, VERSION, read_packet};

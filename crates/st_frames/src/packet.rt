@@ -4,6 +4,7 @@ ghost use Rattle.std.specs.Prelude.{◌≡◌, ◌<◌, ◌≤◌, ◌+◌, ◌^
 ghost use Rattle.std.specs.Iterator.{YieldsFirstBy, item_count};
 ghost use Rattle.st_oer.specs.Seen.{Gives};
 ghost use Rattle.st_frames.specs.Frames.{Known};
+ghost use Rattle.st_frames.specs.Kinds.{kind_number};
 ghost use Rattle.st_frames.specs.Packets.{packet_of};
 ghost use Rattle.st_frames.specs.Reading.{raws_at, frame_at, frames_at, packet_at, all_of};
 ghost use Rattle.st_frames.specs.Seen.{seen, seen_at};
@@ -11,6 +12,7 @@ ghost use Rattle.st_frames.specs.Seen.{seen, seen_at};
 use crate::error::FrameError;
 use crate::field::Malformed;
 use crate::frame::Frame;
+use crate::kind::PacketKind;
 use crate::skeleton::{check_skeleton, raw_frame};
 use crate::table::known_frame;
 use st_oer::Cut;
@@ -25,8 +27,8 @@ pub const VERSION: u8 = 1;
 /// A plain STREAM packet that was read (RFC 0029, section 5.2).
 #[derive(Drop)]
 pub struct StreamPacket<'a> {
-    /// The kind of the ILP packet that carries it: 12 Prepare, 13 Fulfill, 14 Reject.
-    pub kind: u8,
+    /// The kind of the ILP packet that carries it.
+    pub kind: PacketKind,
     /// The sequence number. A reply has the sequence number of its request.
     pub sequence: u64,
     /// In a Prepare the least amount that the receiver should accept, in a reply the amount that arrived. In units of
@@ -129,12 +131,10 @@ fn check_contents(bytes: &[u8], count: u64) -> Result<(), FrameError>
 ///
 /// Fails in this order: `TooLong` above `MAX_PACKET` bytes; `Version`; `Kind`; `Oer` for a fault in the numbers, or in
 /// the type or the length of any frame; `FrameFormat` for the first known frame whose contents are malformed. If the
-/// version or the kind is missing, the error in its place is `Oer(Short)`. Requires a `kind` of 12, 13 or 14.
+/// version or the kind is missing, the error in its place is `Oer(Short)`.
 #[tactic(auto, unfolding(crate::specs::Reading::packet_at))]
-pub fn read_packet(bytes: &[u8], kind: u8) -> Result<StreamPacket<'_>, FrameError>
-    requires from_prepare { 12 ≤ kind }
-    requires to_reject { kind ≤ 14 }
-    ensures exact { Gives packet_of result (packet_at kind bytes.now) }
+pub fn read_packet(bytes: &[u8], kind: PacketKind) -> Result<StreamPacket<'_>, FrameError>
+    ensures exact { Gives packet_of result (packet_at (kind_number kind) bytes.now) }
 {
     if bytes.len() > MAX_PACKET {
         return Err(FrameError::TooLong);
@@ -143,7 +143,7 @@ pub fn read_packet(bytes: &[u8], kind: u8) -> Result<StreamPacket<'_>, FrameErro
     if cut.get_u8()? != VERSION {
         return Err(FrameError::Version);
     }
-    if cut.get_u8()? != kind {
+    if cut.get_u8()? != kind.number() {
         return Err(FrameError::Kind);
     }
     let sequence = cut.var_uint()?;

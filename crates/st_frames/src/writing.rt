@@ -3,11 +3,13 @@
 ghost use Rattle.std.specs.Prelude.{◌≡◌, ◌<◌, ◌≤◌, ◌+◌, ◌++◌, ◌^◌, map, length, vec_len, vec_capacity, None, OnOk, OnErr, IfOk, IsOk, false};
 ghost use Rattle.std.specs.List.{position};
 ghost use Rattle.st_oer.specs.Seen.{Writes};
+ghost use Rattle.st_frames.specs.Kinds.{kind_number};
 ghost use Rattle.st_frames.specs.Seen.{seen};
 ghost use Rattle.st_frames.specs.Written as specs;
 
 use crate::error::FrameError;
 use crate::frame::Frame;
+use crate::kind::PacketKind;
 use crate::length::{contents_len, packet_len};
 use crate::packet::VERSION;
 use crate::table::layout;
@@ -62,7 +64,7 @@ fn append_frames<A: Allocator>(out: &mut Vec<u8, A>, frames: &[Frame<'_>])
 #[tactic(auto, unfolding(crate::specs::Written::packet_text), using(crate::proofs::Puts::puts, crate::proofs::Puts::lengths))]
 fn append_packet<A: Allocator>(
     out: &mut Vec<u8, A>,
-    kind: u8,
+    kind: PacketKind,
     sequence: u64,
     amount: u64,
     frames: &[Frame<'_>],
@@ -70,12 +72,12 @@ fn append_packet<A: Allocator>(
     requires short { length (specs.frames_text (map seen frames.now)) < 2 ^ 64 }
     requires writable { position (λ f. specs.is_unwritable (seen f)) frames.now ≡ None }
     requires room { vec_len out.old + specs.packet_length sequence amount (map seen frames.now) ≤ vec_capacity out.old }
-    ensures text { out.new.items ≡ out.old.items ++ specs.packet_text kind sequence amount (map seen frames.now) }
+    ensures text { out.new.items ≡ out.old.items ++ specs.packet_text (kind_number kind) sequence amount (map seen frames.now) }
     ensures fits { specs.AllFit (map seen frames.now) }
     ensures capacity { vec_capacity out.old ≤ vec_capacity out.new }
 {
     put_u8(out, VERSION).unwrap();
-    put_u8(out, kind).unwrap();
+    put_u8(out, kind.number()).unwrap();
     put_var_uint(out, sequence).unwrap();
     put_var_uint(out, amount).unwrap();
     put_var_uint(out, frames.len() as u64).unwrap();
@@ -89,23 +91,20 @@ fn append_packet<A: Allocator>(
 /// free capacity.
 ///
 /// Fails with `FrameFormat` for the first frame whose address is neither empty nor an ILP address, then with `TooLong`
-/// above `MAX_PACKET` bytes, and then with `NoMemory`. `out` then keeps the bytes that it had. Requires a `kind` of 12,
-/// 13 or 14.
+/// above `MAX_PACKET` bytes, and then with `NoMemory`. `out` then keeps the bytes that it had.
 #[tactic(auto, unfolding(crate::specs::Written::written), using(crate::proofs::Puts::sized))]
 pub fn put_packet<A: Allocator>(
     out: &mut Vec<u8, A>,
-    kind: u8,
+    kind: PacketKind,
     sequence: u64,
     amount: u64,
     frames: &[Frame<'_>],
 ) -> Result<(), FrameError>
-    requires from_prepare { 12 ≤ kind }
-    requires to_reject { kind ≤ 14 }
-    ensures text { OnOk result (out.new.items ≡ out.old.items ++ specs.packet_text kind sequence amount (map seen frames.now)) }
+    ensures text { OnOk result (out.new.items ≡ out.old.items ++ specs.packet_text (kind_number kind) sequence amount (map seen frames.now)) }
     ensures unchanged { OnErr result (out.new.items ≡ out.old.items) }
-    ensures written { specs.WritesPacket kind sequence amount (map seen frames.now) result }
+    ensures written { specs.WritesPacket (kind_number kind) sequence amount (map seen frames.now) result }
     ensures fits { OnOk result (specs.AllFit (map seen frames.now)) }
-    ensures room { IfOk (specs.packet_size kind sequence amount (map seen frames.now)) (λ n. vec_len out.old + n ≤ vec_capacity out.old → IsOk result) }
+    ensures room { IfOk (specs.packet_size (kind_number kind) sequence amount (map seen frames.now)) (λ n. vec_len out.old + n ≤ vec_capacity out.old → IsOk result) }
     ensures capacity { vec_capacity out.old ≤ vec_capacity out.new }
 {
     out.reserve(packet_len(sequence, amount, frames)?)?;
@@ -117,17 +116,15 @@ pub fn put_packet<A: Allocator>(
 /// shortest lengths and numbers, and nothing after the last frame.
 ///
 /// Fails with `FrameFormat` for the first frame whose address is neither empty nor an ILP address, then with `TooLong`
-/// above `MAX_PACKET` bytes, and then with `NoMemory`. Requires a `kind` of 12, 13 or 14.
+/// above `MAX_PACKET` bytes, and then with `NoMemory`.
 pub fn write_packet<A: Allocator>(
     alloc: A,
-    kind: u8,
+    kind: PacketKind,
     sequence: u64,
     amount: u64,
     frames: &[Frame<'_>],
 ) -> Result<Vec<u8, A>, FrameError>
-    requires from_prepare { 12 ≤ kind }
-    requires to_reject { kind ≤ 14 }
-    ensures written { Writes FrameError.NoMemory (λ out. out.items) result (specs.written kind sequence amount (map seen frames.now)) }
+    ensures written { Writes FrameError.NoMemory (λ out. out.items) result (specs.written (kind_number kind) sequence amount (map seen frames.now)) }
     ensures fits { IfOk result (λ _. specs.AllFit (map seen frames.now)) }
 {
     let mut out = Vec::new(alloc);

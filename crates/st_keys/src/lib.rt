@@ -17,5 +17,5 @@ pub use keys::{Keys, condition};
 pub use laws::{hashes_have_32_bytes, opens_without_memory, payload_lengths, sealed_opens};
 pub use mac::hmac;
 pub use payload::{OVERHEAD, plain_payload};
-pub use st_frames::{Frame, FrameError, Frames, StreamPacket};
+pub use st_frames::{Frame, FrameError, Frames, PacketKind, StreamPacket};
 pub use st_lanes::LANES;

@@ -1,6 +1,7 @@
 //! Encrypted packets.
 
 ghost use Rattle.std.specs.Prelude.{◌≡◌, ◌≤◌, ◌++◌, length, take, drop, Ok, OnOk, OnErr, IfOk, map};
+ghost use Rattle.st_frames.specs.Kinds.{kind_number};
 ghost use Rattle.st_frames.specs.Packets.{packet_of};
 ghost use Rattle.st_frames.specs.Seen.{seen};
 ghost use Rattle.st_frames.specs.Written.{AllFit, written, packet_with};
@@ -9,7 +10,7 @@ ghost use Rattle.st_oer.specs.Seen.{Gives, Writes};
 
 use crate::error::KeyError;
 use crate::keys::Keys;
-use st_frames::{Frame, FrameError, StreamPacket, packet_len, put_packet, read_packet};
+use st_frames::{Frame, FrameError, PacketKind, StreamPacket, packet_len, put_packet, read_packet};
 use std::alloc::Allocator;
 
 /// The bytes that a payload has in addition to those of its plain packet: an IV of 12 and a tag of 16.
@@ -36,18 +37,16 @@ fn tag_of(payload: &[u8]) -> [u8; 16]
 /// A payload that is not sealed yet (RFC 0029): room for an IV and a tag, of `OVERHEAD` bytes, and then the packet.
 /// `Keys::seal_payload` seals it. Its memory is requested once, and no other.
 ///
-/// Fails with `FrameFormat`, `TooLong` and `NoMemory`, as `Keys::seal_packet` does. Requires a `kind` of 12, 13 or 14.
+/// Fails with `FrameFormat`, `TooLong` and `NoMemory`, as `Keys::seal_packet` does.
 #[tactic(auto, using(crate::proofs::Written::size_found))]
 pub fn plain_payload<A: Allocator>(
     alloc: A,
-    kind: u8,
+    kind: PacketKind,
     sequence: u64,
     amount: u64,
     frames: &[Frame<'_>],
 ) -> Result<Vec<u8, A>, FrameError>
-    requires from_prepare { 12 ≤ kind }
-    requires to_reject { kind ≤ 14 }
-    ensures written { Writes FrameError.NoMemory (λ payload. ciphertext_of payload.items) result (written kind sequence amount (map seen frames.now)) }
+    ensures written { Writes FrameError.NoMemory (λ payload. ciphertext_of payload.items) result (written (kind_number kind) sequence amount (map seen frames.now)) }
     ensures fits { OnOk result (AllFit (map seen frames.now)) }
     ensures long { IfOk result (λ payload. OVERHEAD ≤ length payload.items) }
 {
@@ -59,11 +58,9 @@ pub fn plain_payload<A: Allocator>(
 }
 
 /// Reads the packet that follows the first `OVERHEAD` bytes of a payload.
-fn packet_behind(payload: &[u8], kind: u8) -> Result<StreamPacket<'_>, KeyError>
-    requires from_prepare { 12 ≤ kind }
-    requires to_reject { kind ≤ 14 }
+fn packet_behind(payload: &[u8], kind: PacketKind) -> Result<StreamPacket<'_>, KeyError>
     requires long { OVERHEAD ≤ length payload.now }
-    ensures { Gives packet_of result (packet_in kind (Ok (ciphertext_of payload.now))) }
+    ensures { Gives packet_of result (packet_in (kind_number kind) (Ok (ciphertext_of payload.now))) }
 {
     match read_packet(&payload[OVERHEAD..], kind) {
         Ok(packet) => Ok(packet),
@@ -78,22 +75,20 @@ impl Keys {
     /// No two packets of a connection may have the same IV: the caller has to see to that.
     ///
     /// Fails with `Packet` if the packet cannot be written: `FrameFormat` for the first frame with a malformed
-    /// address, then `TooLong` above `MAX_PACKET` bytes. Then with `NoMemory`. Requires a `kind` of 12, 13 or 14.
+    /// address, then `TooLong` above `MAX_PACKET` bytes. Then with `NoMemory`.
     #[tactic(auto, unfolding(crate::specs::Sealed::sealed_packet))]
     pub fn seal_packet<A: Allocator>(
         &self,
         alloc: A,
         iv: [u8; 12],
-        kind: u8,
+        kind: PacketKind,
         sequence: u64,
         amount: u64,
         frames: &[Frame<'_>],
     ) -> Result<Vec<u8, A>, KeyError>
-        requires from_prepare { 12 ≤ kind }
-        requires to_reject { kind ≤ 14 }
-        ensures exact { Writes KeyError.NoMemory (λ payload. payload.items) result (sealed_packet self.now iv kind sequence amount (map seen frames.now)) }
+        ensures exact { Writes KeyError.NoMemory (λ payload. payload.items) result (sealed_packet self.now iv (kind_number kind) sequence amount (map seen frames.now)) }
         ensures fits { OnOk result (AllFit (map seen frames.now)) }
-        ensures opens { IfOk result (λ payload. opened self.now kind payload.items ≡ Ok (packet_with kind sequence amount (map seen frames.now))) }
+        ensures opens { IfOk result (λ payload. opened self.now (kind_number kind) payload.items ≡ Ok (packet_with (kind_number kind) sequence amount (map seen frames.now))) }
     {
         let mut payload = plain_payload(alloc, kind, sequence, amount, frames)?;
         self.seal_payload(iv, &mut payload);
@@ -141,16 +136,14 @@ impl Keys {
     /// Fails in this order: `Short` if the payload has fewer bytes than `OVERHEAD`; `Tag` if its tag does not
     /// match its ciphertext; `Packet` if the plain text is not a packet of this kind. After `Short` and `Tag` the
     /// payload is as it was, after `Packet` it is decrypted. No clause says what the bytes are afterwards: a caller
-    /// whose proof needs them makes the two calls. Requires a `kind` of 12, 13 or 14.
+    /// whose proof needs them makes the two calls.
     #[tactic(auto, unfolding(crate::specs::Sealed::opened))]
     pub fn open_packet<'a>(
         &self,
         payload: &'a mut [u8],
-        kind: u8,
+        kind: PacketKind,
     ) -> Result<StreamPacket<'a>, KeyError>
-        requires from_prepare { 12 ≤ kind }
-        requires to_reject { kind ≤ 14 }
-        ensures exact { Gives packet_of result (opened self.now kind payload.old) }
+        ensures exact { Gives packet_of result (opened self.now (kind_number kind) payload.old) }
     {
         self.unseal_payload(payload)?;
         packet_behind(payload, kind)

@@ -1,6 +1,6 @@
 //! Worked STREAM packets that are read; and written ones: each frame, none, and 300 of them while memory is refused.
 
-use st_frames::{Frame, FrameError, read_packet, write_packet};
+use st_frames::{Frame, FrameError, PacketKind, read_packet, write_packet};
 use std::alloc::{Allocator, Global};
 use test_refusing::Refusing;
 
@@ -12,7 +12,7 @@ const HEAD: [u8; 8] = [0x01, 0x0c, 0x01, 0x01, 0x01, 0x00, 0x01, 0x01];
 
 /// Whether bytes are a packet of kind 12, sequence 1 and amount 0 with this frame at this index and no other known frame.
 fn says(bytes: &[u8], index: u64, frame: Frame<'_>) -> bool {
-    let Ok(packet) = read_packet(bytes, 12) else {
+    let Ok(packet) = read_packet(bytes, PacketKind::Prepare) else {
         return false;
     };
     let mut frames = packet.frames;
@@ -146,7 +146,7 @@ fn samples() -> [(&'static [u8], Frame<'static>); 13] {
 
 /// Whether a packet with one frame is written so, and read again.
 fn is_both_ways(alloc: Global, bytes: &[u8], frame: Frame<'_>) -> bool {
-    match write_packet(alloc, 12, 1, 0, &[frame]) {
+    match write_packet(alloc, PacketKind::Prepare, 1, 0, &[frame]) {
         Ok(packet) => packet.starts_with(&HEAD)
             && packet.ends_with(bytes)
             && packet.len() == HEAD.len().saturating_add(bytes.len())
@@ -164,7 +164,7 @@ fn each_frame_both_ways(rt: HostRuntime) {
 
 /// Whether a packet of another kind and without frames is written so.
 fn is_written(alloc: Global, bytes: &[u8]) -> bool {
-    match write_packet(alloc, 14, 256, 1, &[]) {
+    match write_packet(alloc, PacketKind::Reject, 256, 1, &[]) {
         Ok(packet) => packet.as_slice() == bytes,
         Err(_) => false,
     }
@@ -173,7 +173,7 @@ fn is_written(alloc: Global, bytes: &[u8]) -> bool {
 /// How many frames a packet has that all allow nothing.
 fn count(bytes: &[u8]) -> Option<u64> {
     let mut count = 0u64;
-    for (_, frame) in read_packet(bytes, 12).ok()?.frames {
+    for (_, frame) in read_packet(bytes, PacketKind::Prepare).ok()?.frames {
         if frame != (Frame::ConnectionMaxData { max_offset: 0 }) {
             return None;
         }
@@ -185,7 +185,7 @@ fn count(bytes: &[u8]) -> Option<u64> {
 /// The length and the frames of a packet of 300.
 fn many<A: Allocator>(alloc: A) -> Result<(usize, Option<u64>), FrameError> {
     let frames = [Frame::ConnectionMaxData { max_offset: 0 }; 300];
-    match write_packet(alloc, 12, 1, 0, &frames) {
+    match write_packet(alloc, PacketKind::Prepare, 1, 0, &frames) {
         Ok(bytes) => Ok((bytes.len(), count(&bytes))),
         Err(error) => Err(error),
     }

@@ -1,6 +1,6 @@
 //! Sealed packets: what memory sealing asks for, and what opening leaves of a payload.
 
-use st_frames::{Frame, FrameError};
+use st_frames::{Frame, FrameError, PacketKind};
 use st_keys::{KeyError, Keys};
 use std::alloc::Global;
 use std::test::Fail;
@@ -38,7 +38,8 @@ const EMPTY: [u8; 28] = [
 
 /// How sealing these frames is refused, if it is.
 fn refusal(heap: &Refusing<Global>, keys: &Keys, frames: &[Frame<'_>]) -> Option<KeyError> {
-    keys.seal_packet(heap, IV, 12, 1, 0, frames).err()
+    keys.seal_packet(heap, IV, PacketKind::Prepare, 1, 0, frames)
+        .err()
 }
 
 /// The one request that sealing makes is refused, and then not.
@@ -50,7 +51,7 @@ fn a_packet_is_sealed_or_not(rt: HostRuntime) {
     sure!(&rt; refusal(&heap, &keys, &[HI]) == Some(KeyError::NoMemory));
     sure!(&rt; KeyError::NoMemory.number() == 33);
     heap.refuse_from(2);
-    let sealed = keys.seal_packet(&heap, IV, 12, 1, 0, &[HI]);
+    let sealed = keys.seal_packet(&heap, IV, PacketKind::Prepare, 1, 0, &[HI]);
     let payload = sealed.expect(&rt, "it is sealed");
     sure!(&rt; (heap.asked(), payload.capacity()) == (1, 45));
     sure!(&rt; payload.as_slice() == SEALED.as_slice());
@@ -61,7 +62,7 @@ fn a_packet_is_sealed_or_not(rt: HostRuntime) {
 fn what_opening_leaves(rt: HostRuntime) -> Result<(), Fail> {
     let keys = Keys::of([0; 32]);
     let mut payload = SEALED;
-    sure!(&rt; keys.open_packet(&mut payload, 12)?.sequence == 1);
+    sure!(&rt; keys.open_packet(&mut payload, PacketKind::Prepare)?.sequence == 1);
     sure!(&rt; payload == OPENED);
     Ok(())
 }
@@ -71,11 +72,11 @@ fn what_opening_leaves(rt: HostRuntime) -> Result<(), Fail> {
 fn what_a_refused_packet_leaves(rt: HostRuntime) {
     let keys = Keys::of([0; 32]);
     let mut payload = SEALED;
-    let refused = keys.open_packet(&mut payload, 13).err();
+    let refused = keys.open_packet(&mut payload, PacketKind::Fulfill).err();
     sure!(&rt; refused == Some(KeyError::Packet(FrameError::Kind)));
     sure!(&rt; payload == OPENED);
     let mut empty = EMPTY;
-    let refused = keys.open_packet(&mut empty, 12).err();
+    let refused = keys.open_packet(&mut empty, PacketKind::Prepare).err();
     sure!(&rt; refused.map(|e| (e.number(), e.inner())) == Some((32, Some(22))));
     sure!(&rt; empty == EMPTY);
 }
@@ -88,7 +89,7 @@ fn what_a_wrong_tag_leaves(rt: HostRuntime) {
         let mut payload = SEALED;
         payload[wrong] ^= 1;
         let before = payload;
-        let refused = keys.open_packet(&mut payload, 12).err();
+        let refused = keys.open_packet(&mut payload, PacketKind::Prepare).err();
         assert!(rt; refused == Some(KeyError::Tag), "at {wrong}");
         assert!(rt; payload == before, "at {wrong}");
     }

@@ -1,10 +1,10 @@
 //! A STREAM packet that is read.
 
-use st_frames::{Frame, FrameError, read_packet};
+use st_frames::{Frame, FrameError, PacketKind, read_packet};
 
 /// The bytes of the first StreamData frame in a packet that a Prepare carried, with the frame's index.
 fn first_data(packet: &[u8]) -> Result<Option<(u64, &[u8])>, FrameError> {
-    for (index, frame) in read_packet(packet, 12)?.frames {
+    for (index, frame) in read_packet(packet, PacketKind::Prepare)?.frames {
         if let Frame::StreamData { bytes, .. } = frame {
             return Ok(Some((index, bytes)));
         }

@@ -1,6 +1,6 @@
 //! A STREAM packet that is sealed and opened.
 
-use st_keys::{Frame, KeyError, Keys};
+use st_keys::{Frame, KeyError, Keys, PacketKind};
 use std::alloc::Global;
 
 /// Seals "hi", the first bytes of stream 1, for an ILP Prepare, and opens the payload as the peer does, who has the secret.
@@ -10,8 +10,8 @@ fn is_heard(secret: [u8; 32], iv: [u8; 12], alloc: Global) -> Result<bool, KeyEr
         offset: 0,
         bytes: b"hi",
     };
-    let mut payload = Keys::of(secret).seal_packet(alloc, iv, 12, 1, 0, &[hi])?;
-    let packet = Keys::of(secret).open_packet(&mut payload, 12)?;
+    let mut payload = Keys::of(secret).seal_packet(alloc, iv, PacketKind::Prepare, 1, 0, &[hi])?;
+    let packet = Keys::of(secret).open_packet(&mut payload, PacketKind::Prepare)?;
     Ok(packet.frames.again().next() == Some((0, hi)))
 }
 

@@ -1,5 +1,6 @@
 use Rattle.std.proofs.Common.{◌≡◌, ◌++◌, List, ℕ, length, take, drop, map, Ok, sym, ap, ◌∙◌, arith}
 use Rattle.std.proofs.lemmas.List.{take_at, length-drop}
+use Rattle.st_frames.specs.Kinds.{kind_number}
 use Rattle.st_frames.specs.Seen.{seen}
 use Rattle.st_keys.specs.Sealed.{sealed, sealed_text, sealed_packet, ciphertext_of}
 use Rattle.st_keys.proofs.Lengths.{sealed_length}
@@ -20,4 +21,4 @@ returns-clause-opens g c =
     omega (arith, ap length same, sealed_length a.self.now a.iv (ciphertext_of given.items) long, length-drop 28 given.items, c.in_ok-payload.ensures.long, ap length c.deref_mut.ensures.value, c.deref_mut.ensures.len) in
     let out : take given.len (bytes ++ drop (length bytes) given.items) ≡ bytes = take_at bytes (drop (length bytes) given.items) given.len whole in
     let is = ap (sealed_text a.self.now a.iv) c.in_ok-payload.ensures.written ∙ ap (λ (l : List ℕ). Ok l) (sym (out ∙ same)) in
-    packet_opens a.self.now a.iv _ a.kind a.sequence a.amount ks long (omega arith) (omega arith) c.in_ok-payload.ensures.fits is
+    packet_opens a.self.now a.iv _ (kind_number a.kind) a.sequence a.amount ks long (omega arith) (omega arith) c.in_ok-payload.ensures.fits is
