@@ -80,7 +80,7 @@ where
     if lobby.is_done() {
         return Err(Leaves::Done);
     }
-    match lobby.turn(pace.time, accepts && !pace.is_full) {
+    match lobby.turn(pace.time, accepts) {
         Ok(came) => Ok(came),
         Err(_) => Err(Leaves::Failed),
     }
@@ -111,8 +111,8 @@ where
     turned
 }
 
-/// Opens the body of a request, and has it wait to be judged and answered. If memory is refused for that, its connection
-/// ends without a response.
+/// Opens the body of a request, and has it wait to be judged and answered, once fewer than 64 do. If memory is refused for
+/// that, its connection ends without a response.
 fn hand_over<'a, N: ReceiverName, L: AwaitListener, R: Wait + Clock>(
     rt: &R,
     shared: &Shared<'a, N, L, R>,

@@ -13,8 +13,8 @@ use std::time::{Clock, Duration};
 /// How many seconds the thread of the end waits for those that read requests to begin.
 const BEGIN_SECONDS: u64 = 10;
 
-/// How many requests may wait to be judged before no further connection is accepted.
-const MOST_WAITING: usize = 256;
+/// How many requests may wait to be judged. A thread with one more waits until fewer do.
+const MOST_WAITING: usize = 64;
 
 /// The requests that wait, and the threads that read them.
 #[derive(Drop)]
@@ -26,6 +26,8 @@ struct Queue<T> {
     patience: Patience,
     /// Whether the thread of the end waits for a request, and was not signalled since.
     is_awaited: bool,
+    /// Whether a thread waits until fewer requests do, and was not signalled since.
+    is_crowded: bool,
 }
 
 impl<T: Drop> Queue<T> {
@@ -74,8 +76,6 @@ impl<T: Drop> Queue<T> {
 pub(crate) struct Pace {
     /// Whether no further connection is to be accepted.
     pub(crate) is_stopped: bool,
-    /// Whether no connection is to be accepted until fewer requests wait.
-    pub(crate) is_full: bool,
     /// How long a request may take, by the receiver's patience.
     pub(crate) time: Option<Duration>,
 }
@@ -86,6 +86,8 @@ pub(crate) struct Requests<T> {
     queue: Mutex<Queue<T>>,
     /// Signalled when a request waits, or a thread that reads them begins or ends.
     came: Condvar,
+    /// Signalled when fewer requests wait, or the transfer is over.
+    room: Condvar,
 }
 
 // Each function here that acquires the lock releases it before it returns.
@@ -99,8 +101,10 @@ impl<T: Drop> Requests<T> {
                 readers: Readers::none(),
                 patience,
                 is_awaited: false,
+                is_crowded: false,
             }),
             came: Condvar::new(),
+            room: Condvar::new(),
         }
     }
 
@@ -124,14 +128,20 @@ impl<T: Drop> Requests<T> {
         }
         Some(Pace {
             is_stopped: queue.readers.is_stopped(),
-            is_full: queue.asked.len() >= MOST_WAITING,
             time: queue.patience.left(rt).ok().flatten(),
         })
     }
 
-    /// Has a request wait. It is dropped if memory is refused.
+    /// Has a request wait, once fewer than 64 do or the transfer is over. It is dropped if memory is refused.
     pub(crate) fn put(&self, rt: &impl Wait, asked: T) -> Result<(), AllocError> {
         let mut queue = self.queue.lock(rt);
+        for _ in rt.forever() {
+            if queue.asked.len() < MOST_WAITING || queue.readers.is_over() {
+                break;
+            }
+            queue.is_crowded = true;
+            queue = self.room.wait(rt, queue);
+        }
         let put = queue.put(asked);
         let is_awaited = queue.is_awaited;
         queue.is_awaited = false;
@@ -150,6 +160,7 @@ impl<T: Drop> Requests<T> {
     /// The transfer is over: each thread that reads requests is to end.
     pub(crate) fn end(&self, rt: &impl Wait) {
         self.queue.lock(rt).readers.end();
+        self.room.notify_all();
     }
 
     /// Waits until threads begin to read requests, for ten seconds at most. False if none did. `readers` is as they are then.
@@ -189,6 +200,10 @@ impl<T: Drop> Requests<T> {
         let mut queue = self.queue.lock(rt);
         queue.patience = *patience;
         *readers = queue.readers;
+        if queue.is_crowded {
+            queue.is_crowded = false;
+            self.room.notify_all();
+        }
         if let Some(asked) = queue.next()? {
             return Ok(Some(asked));
         }
