@@ -31,7 +31,7 @@ abbrev pub AnswersFor : EndState → (bytes answer : Option (List ℕ)) → EndS
 AnswersFor a None answer b = (bytes : List ℕ) → Answers a bytes answer b
 AnswersFor a (Some bytes) answer b = Answers a bytes answer b
 
--- an end answered the body of a request that stands so
+-- an end gave this answer to the body of a request
 abbrev pub AnswersBody : EndState → Standing → (answer : Option (List ℕ)) → EndState → Type 0
 AnswersBody a standing answer b = (body : List ℕ) × (body_of standing ≡ Some body) × Answers a body answer b
 

@@ -1,7 +1,7 @@
 //! Requests that threads opened, and how they are answered.
 
 ghost use Rattle.std.specs.Prelude.{◌≡◌, ℕ, List, Option, IfSome};
-ghost use Rattle.st_http.specs.Serves.{Responds, response_text};
+ghost use Rattle.st_http.specs.Serves.{Responds, bytes_of, response_text};
 ghost use Rattle.st_devices.specs.Tallies.{device_of};
 ghost use Rattle.st_end.specs.State as state;
 ghost use Rattle.ilpstream_serving.specs.Answering.{IsWholeAt};
@@ -84,6 +84,21 @@ impl Answerer for Prepared {
     }
 }
 
+/// Writes the response to a request with this answer to a stream. What fails on the stream ends it alone.
+fn respond_with<T: Write>(
+    alloc: Global,
+    stream: &mut Counting<T>,
+    reading: &Reading<'_, Global>,
+    answer: Option<Vec<u8>>,
+    turns: &mut u64,
+) -> Result<(), HttpError>
+    requires { IsWholeAt reading.now.standing }
+    ensures { Responds (T.contents (device_of stream.old)) (T.contents (device_of stream.new)) (response_text (bytes_of (λ v. v.items) answer)) result }
+{
+    let mut prepared = Prepared { answer };
+    respond(alloc, stream, reading, &mut prepared, turns)
+}
+
 /// A request that has arrived intact, with its connection, opened for the end of the named receiver.
 #[derive(Drop)]
 pub(crate) struct Asked<'a, N: ReceiverName, T> {
@@ -138,12 +153,11 @@ impl<N: ReceiverName, T: Write> Asked<'_, N, T> {
             × Responds (T.contents (device_of self.old.stream)) (T.contents (device_of self.new.stream)) (response_text answer) result }
     {
         let answer = receiver.answer(&self.opened);
-        let mut prepared = Prepared { answer };
-        respond(
+        respond_with(
             alloc,
             &mut self.stream,
             &self.reading,
-            &mut prepared,
+            answer,
             &mut self.turns,
         )
     }
