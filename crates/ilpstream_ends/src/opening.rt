@@ -111,7 +111,7 @@ where
     turned
 }
 
-/// Opens the body of a request, and has it wait to be judged and answered, once fewer than 64 do. If memory is refused for
+/// Opens the body of a request, and has it wait to be judged and answered, once fewer than 16 do. If memory is refused for
 /// that, its connection ends without a response.
 fn hand_over<'a, N: ReceiverName, L: AwaitListener, R: Wait + Clock>(
     rt: &R,

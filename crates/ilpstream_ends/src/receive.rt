@@ -277,7 +277,7 @@ where
 /// delays another; if one more arrives at a thread, its oldest is closed. `clock` gives the moments at which Prepares
 /// arrive. `rt` is the runtime that measures time: a request may take 30 seconds to arrive, and no longer than the
 /// receiver's patience; its answer may be written until then, and for 5 seconds at least. A response is at most some
-/// kilobytes, and nothing else is written to its connection, so that the write does not wait for the peer. Up to 64
+/// kilobytes, and nothing else is written to its connection, so that the write does not wait for the peer. Up to 16
 /// requests wait to be judged; a thread with one more waits meanwhile. A valid request is one that is answered by the
 /// end: the patience begins again once what it brought is written. After each request, stream 1 and the output together
 /// are called at most `terms.turns` times. A connection that fails, is cut off, is too slow or uses up its I/O calls

@@ -14,7 +14,7 @@ use std::time::{Clock, Duration};
 const BEGIN_SECONDS: u64 = 10;
 
 /// How many requests may wait to be judged. A thread with one more waits until fewer do.
-const MOST_WAITING: usize = 64;
+const MOST_WAITING: usize = 16;
 
 /// The requests that wait, and the threads that read them.
 #[derive(Drop)]
@@ -132,7 +132,7 @@ impl<T: Drop> Requests<T> {
         })
     }
 
-    /// Has a request wait, once fewer than 64 do or the transfer is over. It is dropped if memory is refused.
+    /// Has a request wait, once fewer than 16 do or the transfer is over. It is dropped if memory is refused.
     pub(crate) fn put(&self, rt: &impl Wait, asked: T) -> Result<(), AllocError> {
         let mut queue = self.queue.lock(rt);
         for _ in rt.forever() {
