@@ -1,5 +1,6 @@
 -- A run of an end continues, and what of it is written.
-use Rattle.std.specs.Prelude.{IsSome}
+use Rattle.std.specs.Prelude.{IfSome, IsSome}
+use Rattle.std.specs.Option.{ForSome}
 use Rattle.std.proofs.Common.{◌≡◌, ◌⊎◌, ◌∙◌, ℕ, zero, suc, Bool, true, false, List, [], ◌++◌, inl, inr, append-nil, refl, sym, ap, subst, Option, Some, None, Result, Ok, Err, if◌then◌else◌}
 use Rattle.std.specs.Io.KnownBytes.{Keeps}
 use Rattle.std.proofs.KnownBytes.{Appends-nil, Appends-kept}
@@ -21,7 +22,7 @@ use Rattle.st_file.specs.declared.error.FileError.TheVariants.{ReadFault, WriteF
 use Rattle.st_file.proofs.Storing.{stored_more, stored_why}
 use Rattle.ilpstream_serving.specs.Answering.{Answers, IsWholeAt}
 use Rattle.ilpstream_ends.specs.Keeping.{Explains, Gives, Happens, IsOfDelivery, comes, is_read, IsUpToDate, Kept, KeptAll, KeptTo, Reads, Runs, RunsIn, file_stream, piece_limit, given_of}
-use Rattle.ilpstream_ends.specs.Replies.{AnswersBody, AnswersFor, IsBodyAt, IsLater, IsOpenedFor}
+use Rattle.ilpstream_ends.specs.Replies.{AnswersBody, AnswersFor, IsLater, IsOpenedFor}
 use Rattle.ilpstream_serving.specs.declared.error.TransferError.{TransferError}
 use Rattle.ilpstream_serving.specs.declared.error.TransferError.TheVariants as transfer
 
@@ -160,14 +161,19 @@ later_keys start now later = runs_in_keys later.1.0 start later.0 now later.1.1
 pub opened_later : {X : Type 0} (start now : EndState) (opened : Option (Opened X)) → IsLater start now → IsOpenedFor start.keys opened → IsOpenedFor now.keys opened
 opened_later start now opened later h = subst (λ k. IsOpenedFor k opened) (sym (later_keys start now later)) h
 
+-- what was opened of the body of a request, if there was memory, is that body
+pub body_opened : (standing : Standing) (body : List ℕ) (bytes : Option (List ℕ)) → body_of standing ≡ Some body → IfSome bytes (λ b. b ≡ body) → ForSome bytes (λ b. body_of standing ≡ Some b)
+body_opened standing body None is same = λ b some. absurd (cc)
+body_opened standing body (Some x) is same = λ b some. is ∙ ap Some (sym same) ∙ some
+
 -- an answer to what was opened is one to the body of its request
-pub answers_body : (standing : Standing) (now next : EndState) (bytes answer : Option (List ℕ)) → IsWholeAt standing → IsBodyAt standing bytes → AnswersFor now bytes answer next → AnswersBody now standing answer next
+pub answers_body : (standing : Standing) (now next : EndState) (bytes answer : Option (List ℕ)) → IsWholeAt standing → ForSome bytes (λ b. body_of standing ≡ Some b) → AnswersFor now bytes answer next → AnswersBody now standing answer next
 answers_body standing now next None answer whole same h = of_body (body_of standing) refl whole.1
   where
     of_body : (body : Option (List ℕ)) → body_of standing ≡ body → IsSome body → AnswersBody now standing answer next
     of_body (Some body) is some = (body, is, h body)
     of_body None is some = absurd (cc)
-answers_body standing now next (Some bytes) answer whole same h = (bytes, same, h)
+answers_body standing now next (Some bytes) answer whole same h = (bytes, same bytes refl, h)
 
 -- what is written of an end is written of a later one
 pub kept_later : (start now : EndState) (before after : Option (List ℕ)) (n : ℕ) → Kept start before now after n → IsLater start now

@@ -21,11 +21,6 @@ abbrev pub IsOpenedFor : {X : Type 0} → DerivedKeys → Option (Opened X) → 
 IsOpenedFor keys None = ⊤
 IsOpenedFor keys (Some opened) = IsOpenedBy keys opened.bytes.items opened
 
--- these are the body of a request, if there was memory for them
-abbrev pub IsBodyAt : Standing → (bytes : Option (List ℕ)) → Type 0
-IsBodyAt standing None = ⊤
-IsBodyAt standing (Some bytes) = body_of standing ≡ Some bytes
-
 -- the answer to bytes for which there was memory; without them it is one to any bytes
 abbrev pub AnswersFor : EndState → (bytes answer : Option (List ℕ)) → EndState → Type 0
 AnswersFor a None answer b = (bytes : List ℕ) → Answers a bytes answer b

@@ -1,11 +1,13 @@
 //! Requests that threads opened, and how they are answered.
 
-ghost use Rattle.std.specs.Prelude.{◌≡◌, ℕ, List, Option, IfSome};
+ghost use Rattle.std.specs.Prelude.{◌≡◌, ℕ, List, Option, Some, IfSome};
+ghost use Rattle.std.specs.Option.{ForSome};
+ghost use Rattle.st_http.specs.Progress.{body_of};
 ghost use Rattle.st_http.specs.Serves.{Responds, bytes_of, response_text};
 ghost use Rattle.st_devices.specs.Tallies.{device_of};
 ghost use Rattle.st_end.specs.State as state;
 ghost use Rattle.ilpstream_serving.specs.Answering.{IsWholeAt};
-ghost use Rattle.ilpstream_ends.specs.Replies.{AnswersBody, IsBodyAt, IsLater, IsOpenedFor, bytes_opened, no_end};
+ghost use Rattle.ilpstream_ends.specs.Replies.{AnswersBody, AnswersFor, IsLater, IsOpenedFor, bytes_opened, no_end};
 
 use crate::receiver::Receiver;
 use st_devices::Counting;
@@ -67,6 +69,45 @@ fn opened_bytes(alloc: Global, keys: &Keys, bytes: &[u8]) -> Option<Opened<Globa
     }
 }
 
+/// The body of a request, opened for the end of the named receiver. Contracts see it as its bytes; `None` if memory for a
+/// copy of them was refused.
+#[derive(Drop)]
+struct OpenedBody<N: ReceiverName> {
+    opened: Option<Opened<Global>>,
+    of: PhantomData<N>,
+}
+
+impl<N: ReceiverName> Model for OpenedBody<N> {
+    ghost use Rattle.std.specs.Prelude.{ℕ, List, Option};
+    ghost use Rattle.ilpstream_ends.specs.Replies.{IsOpenedFor, bytes_opened};
+
+    ghost Value = { Option (List ℕ) };
+
+    ghost view = { λ a. bytes_opened a.opened };
+
+    ghost invariant = { λ a. IsOpenedFor N.start.keys a.opened };
+}
+
+impl<N: ReceiverName> OpenedBody<N> {
+    /// Opens these bytes.
+    fn of(alloc: Global, keys: &OpeningKeys<N>, bytes: &[u8]) -> OpenedBody<N>
+        ensures { IfSome result (λ opened. opened ≡ bytes.now) }
+    {
+        OpenedBody {
+            opened: opened_bytes(alloc, &keys.keys, bytes),
+            of: PhantomData,
+        }
+    }
+
+    /// The answer that the end of the named receiver gives to these bytes.
+    fn judged<K: Clock>(&self, receiver: &mut Receiver<K>) -> Option<Vec<u8>>
+        requires { IsLater N.start receiver.old.end }
+        ensures { AnswersFor receiver.old.end self.now (bytes_of (λ v. v.items) result) receiver.new.end }
+    {
+        receiver.answer(&self.opened)
+    }
+}
+
 /// Gives one answer, which was made before.
 #[derive(Drop)]
 struct Prepared {
@@ -106,16 +147,14 @@ pub(crate) struct Asked<'a, N: ReceiverName, T> {
     reading: Reading<'a, Global>,
     /// The I/O calls that are left to the connection.
     turns: u64,
-    /// The body of the request. `None` if memory for a copy was refused.
-    opened: Option<Opened<Global>>,
-    of: PhantomData<N>,
+    body: OpenedBody<N>,
     ghost whole: { IsWholeAt reading.standing },
-    ghost opened_for: { IsOpenedFor N.start.keys opened },
-    ghost same: { IsBodyAt reading.standing (bytes_opened opened) },
+    ghost same: { ForSome body (λ bytes. body_of reading.standing ≡ Some bytes) },
 }
 
 impl<'a, N: ReceiverName, T> Asked<'a, N, T> {
     /// Opens the body of a request that has arrived intact on a connection, of which `turns` I/O calls are left.
+    #[tactic(auto, using(crate::proofs::Keeping::body_opened))]
     pub(crate) fn of(
         alloc: Global,
         keys: &OpeningKeys<N>,
@@ -124,16 +163,14 @@ impl<'a, N: ReceiverName, T> Asked<'a, N, T> {
         turns: u64,
     ) -> Asked<'a, N, T>
         requires { IsWholeAt reading.standing }
-        ensures { (result.stream ≡ stream) × (result.reading ≡ reading) × (result.turns ≡ turns) }
+        ensures { (result.stream ≡ stream) × (result.reading ≡ reading.entry) × (result.turns ≡ turns) }
     {
-        let body = reading.body().unwrap();
-        let opened = opened_bytes(alloc, &keys.keys, body);
+        let body = OpenedBody::of(alloc, keys, reading.body().unwrap());
         Asked {
             stream,
             reading,
             turns,
-            opened,
-            of: PhantomData,
+            body,
         }
     }
 }
@@ -142,7 +179,7 @@ impl<N: ReceiverName, T: Write> Asked<'_, N, T> {
     /// Has the end of the named receiver judge the request, and writes its answer as the response. What fails on the
     /// connection ends it alone. A response is at most some kilobytes, and the first that is written to its connection. So
     /// the write does not wait for the peer, and the stream's deadline bounds it in any case.
-    #[tactic(auto, using(crate::proofs::Keeping::opened_later, crate::proofs::Keeping::answers_body))]
+    #[tactic(auto, using(crate::proofs::Keeping::answers_body))]
     pub(crate) fn answer<K: Clock>(
         &mut self,
         alloc: Global,
@@ -152,7 +189,7 @@ impl<N: ReceiverName, T: Write> Asked<'_, N, T> {
         ensures { (answer : Option (List ℕ)) × AnswersBody receiver.old.end self.old.reading.standing answer receiver.new.end
             × Responds (T.contents (device_of self.old.stream)) (T.contents (device_of self.new.stream)) (response_text answer) result }
     {
-        let answer = receiver.answer(&self.opened);
+        let answer = self.body.judged(receiver);
         respond_with(
             alloc,
             &mut self.stream,
