@@ -2,6 +2,7 @@
 """Runs `send`, `receive` and `connector` at their edges: edges.py [PROGRAM [WORD]]. Links that fail and recover, peers that stop,
 many connections, too few threads and files. With a WORD, only the tests whose names have it. A line for each test says how long
 it took or what was measured, or what is wrong; the last line counts them. Tests that wait for a time-out run side by side."""
+import fcntl
 import glob
 import os
 import pty
@@ -13,6 +14,7 @@ import socket
 import struct
 import subprocess
 import sys
+import termios
 import threading
 import time
 
@@ -123,6 +125,36 @@ def a_receiver_beside_connections_that_send(play, count, each):
     receiver = play.receive()
     beside(play, receiver.port, count, each)
     return arrives(play.send(receiver.port, content), receiver, content, 15)
+
+
+@test((10,), (100,), waits=True)
+def a_receiver_whose_output_stops_has_requests_wait(play, count):
+    """100 are more than may wait to be judged. Once the output is read again, each is answered, and all arrives."""
+    content, path, came = some_bytes(300_000), f"{play.room}/output", []
+    os.mkfifo(path)
+    output = os.open(path, os.O_RDONLY | os.O_NONBLOCK)
+    receiver = play.receive(path=path)
+    sender = play.send(receiver.port, content)
+    comes(lambda: waits_in(output) == 65_536, 10)
+    time.sleep(0.5)
+    streams = [play.connect(receiver.port, request("t", prepare(0, 30, "test.b"))) for _ in range(count)]
+    time.sleep(1)
+    early = len(select.select(streams, [], [], 0)[0])
+    os.set_blocking(output, True)
+    while part := os.read(output, 65_536):
+        came.append(part)
+    os.close(output)
+    ends_well(sender, 10)
+    told = ended(receiver, 10)
+    want(told == "0" and b"".join(came) == content, f"receive {told}, {len(b''.join(came))} of {len(content)} bytes")
+    answered = sum(message(it)[1][:1] == b"\x0e" for it in streams)
+    want((early, answered) == (0, count), f"{early} of {count} requests had a response early, and {answered} in the end")
+    return f"{answered} responses"
+
+
+def waits_in(pipe):
+    """How many bytes a pipe has."""
+    return struct.unpack("i", fcntl.ioctl(pipe, termios.FIONREAD, bytes(4)))[0]
 
 
 @test(waits=True)

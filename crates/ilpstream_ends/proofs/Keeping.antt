@@ -1,4 +1,6 @@
 -- A run of an end continues, and what of it is written.
+use Rattle.std.specs.Prelude.{IfSome, IsSome}
+use Rattle.std.specs.Option.{ForSome}
 use Rattle.std.proofs.Common.{◌≡◌, ◌⊎◌, ◌∙◌, ℕ, zero, suc, Bool, true, false, List, [], ◌++◌, inl, inr, append-nil, refl, sym, ap, subst, Option, Some, None, Result, Ok, Err, if◌then◌else◌}
 use Rattle.std.specs.Io.KnownBytes.{Keeps}
 use Rattle.std.proofs.KnownBytes.{Appends-nil, Appends-kept}
@@ -12,13 +14,15 @@ use Rattle.st_end.specs.Receiving.{Verdict, Unread, Rejects, Fulfills, after_ver
 use Rattle.st_end.specs.declared.opened.Opened.{Opened}
 use Rattle.st_end.specs.declared.error.EndError.{EndError}
 use Rattle.st_end.specs.declared.error.EndError.TheVariants as refusals
+use Rattle.st_http.specs.Message.{Standing}
+use Rattle.st_http.specs.Progress.{body_of}
 use Rattle.st_file.specs.Stores.{Flushes, WritesPiece}
 use Rattle.st_file.specs.declared.error.FileError.{FileError}
 use Rattle.st_file.specs.declared.error.FileError.TheVariants.{ReadFault, WriteFault, Aborted, Turns, NoMemory, Closed}
 use Rattle.st_file.proofs.Storing.{stored_more, stored_why}
-use Rattle.ilpstream_serving.specs.Answering.{Answers}
+use Rattle.ilpstream_serving.specs.Answering.{Answers, IsWholeAt}
 use Rattle.ilpstream_ends.specs.Keeping.{Explains, Gives, Happens, IsOfDelivery, comes, is_read, IsUpToDate, Kept, KeptAll, KeptTo, Reads, Runs, RunsIn, file_stream, piece_limit, given_of}
-use Rattle.ilpstream_ends.specs.Replies.{AnswersFor, IsLater, IsOpenedFor, IsReply, IsReplyFor, bytes_opened}
+use Rattle.ilpstream_ends.specs.Replies.{AnswersBody, AnswersFor, IsLater, IsOpenedFor}
 use Rattle.ilpstream_serving.specs.declared.error.TransferError.{TransferError}
 use Rattle.ilpstream_serving.specs.declared.error.TransferError.TheVariants as transfer
 
@@ -157,23 +161,19 @@ later_keys start now later = runs_in_keys later.1.0 start later.0 now later.1.1
 pub opened_later : {X : Type 0} (start now : EndState) (opened : Option (Opened X)) → IsLater start now → IsOpenedFor start.keys opened → IsOpenedFor now.keys opened
 opened_later start now opened later h = subst (λ k. IsOpenedFor k opened) (sym (later_keys start now later)) h
 
--- its answers are those of the end that began so
-pub reply_for : (start now next : EndState) (bytes answer : Option (List ℕ)) → IsLater start now → AnswersFor now bytes answer next → IsReplyFor start bytes answer
-reply_for start now next None answer later h = λ bytes. (now, next, later, h bytes)
-reply_for start now next (Some bytes) answer later h = (now, next, later, h)
+-- what was opened of the body of a request, if there was memory, is that body
+pub body_opened : (standing : Standing) (body : List ℕ) (bytes : Option (List ℕ)) → body_of standing ≡ Some body → IfSome bytes (λ b. b ≡ body) → ForSome bytes (λ b. body_of standing ≡ Some b)
+body_opened standing body None is same = λ b some. absurd (cc)
+body_opened standing body (Some x) is same = λ b some. is ∙ ap Some (sym same) ∙ some
 
--- an answer to bytes that were opened is one to the same bytes
-pub reply_to_same : {X : Type 0} (start : EndState) (opened : Option (Opened X)) (o : Opened X) (bytes : List ℕ) (answer : Option (List ℕ)) → opened ≡ Some o → o.bytes.items ≡ bytes → IsReplyFor start (bytes_opened opened) answer → IsReply start bytes answer
-reply_to_same {X} start opened o bytes answer is same h = subst (λ b. IsReply start b answer) same (subst (λ (x : Option (Opened X)). IsReplyFor start (bytes_opened x) answer) is h)
-
--- and without memory for them it is one to any bytes
-pub reply_to_any : {X : Type 0} (start : EndState) (opened : Option (Opened X)) (bytes : List ℕ) (answer : Option (List ℕ)) → opened ≡ None → IsReplyFor start (bytes_opened opened) answer → IsReply start bytes answer
-reply_to_any {X} start opened bytes answer is h = subst (λ (x : Option (Opened X)). IsReplyFor start (bytes_opened x) answer) is h bytes
-
--- and an answer is one to some bytes
-pub answers_some : (now next : EndState) (bytes answer : Option (List ℕ)) → AnswersFor now bytes answer next → (some : List ℕ) × Answers now some answer next
-answers_some now next None answer h = ([], h [])
-answers_some now next (Some bytes) answer h = (bytes, h)
+-- an answer to what was opened is one to the body of its request
+pub answers_body : (standing : Standing) (now next : EndState) (bytes answer : Option (List ℕ)) → IsWholeAt standing → ForSome bytes (λ b. body_of standing ≡ Some b) → AnswersFor now bytes answer next → AnswersBody now standing answer next
+answers_body standing now next None answer whole same h = of_body (body_of standing) refl whole.1
+  where
+    of_body : (body : Option (List ℕ)) → body_of standing ≡ body → IsSome body → AnswersBody now standing answer next
+    of_body (Some body) is some = (body, is, h body)
+    of_body None is some = absurd (cc)
+answers_body standing now next (Some bytes) answer whole same h = (bytes, same bytes refl, h)
 
 -- what is written of an end is written of a later one
 pub kept_later : (start now : EndState) (before after : Option (List ℕ)) (n : ℕ) → Kept start before now after n → IsLater start now

@@ -1,7 +1,9 @@
--- What the threads of a receiver pass on: requests that they opened, and the answers of its end.
-use Rattle.std.specs.Prelude.{ℕ, List, [], Option, None, Some, ⊤}
+-- Requests that the threads of a receiver opened, and the answers of its end.
+use Rattle.std.specs.Prelude.{◌≡◌, ℕ, List, [], Option, None, Some, ⊤}
 use Rattle.st_oer.specs.Ratios.{ratio}
 use Rattle.st_keys.specs.Keys.{DerivedKeys}
+use Rattle.st_http.specs.Message.{Standing}
+use Rattle.st_http.specs.Progress.{body_of}
 use Rattle.st_end.specs.State.{EndState, new_end}
 use Rattle.st_end.specs.Opened.{IsOpenedBy}
 use Rattle.st_end.specs.declared.opened.Opened.{Opened}
@@ -24,18 +26,13 @@ abbrev pub AnswersFor : EndState → (bytes answer : Option (List ℕ)) → EndS
 AnswersFor a None answer b = (bytes : List ℕ) → Answers a bytes answer b
 AnswersFor a (Some bytes) answer b = Answers a bytes answer b
 
+-- an end gave this answer to the body of a request
+abbrev pub AnswersBody : EndState → Standing → (answer : Option (List ℕ)) → EndState → Type 0
+AnswersBody a standing answer b = (body : List ℕ) × (body_of standing ≡ Some body) × Answers a body answer b
+
 -- the end that began as `start` is this one after a run
 abbrev pub IsLater : (start now : EndState) → Type 0
 IsLater start now = (out : List ℕ) × Runs start out now
-
--- the end that began as `start` gave this answer to these bytes
-abbrev pub IsReply : (start : EndState) → (bytes : List ℕ) → (answer : Option (List ℕ)) → Type 0
-IsReply start bytes answer = (a b : EndState) × IsLater start a × Answers a bytes answer b
-
--- the same to bytes for which there was memory; without them the answer is one to any bytes
-abbrev pub IsReplyFor : (start : EndState) → (bytes answer : Option (List ℕ)) → Type 0
-IsReplyFor start None answer = (bytes : List ℕ) → IsReply start bytes answer
-IsReplyFor start (Some bytes) answer = IsReply start bytes answer
 
 -- an end for the name that no receiver has
 abbrev pub no_end : EndState

@@ -1,12 +1,13 @@
-//! Requests that threads opened, and their answers.
+//! Requests that threads opened, and how they are answered.
 
-ghost use Rattle.std.specs.Prelude.{◌≡◌, ◌↔◌, ℕ, List, Option, Some, IfSome, IsTrue, MatchOption};
+ghost use Rattle.std.specs.Prelude.{◌≡◌, ℕ, List, Option, Some, IfSome};
+ghost use Rattle.std.specs.Option.{ForSome};
 ghost use Rattle.st_http.specs.Progress.{body_of};
 ghost use Rattle.st_http.specs.Serves.{Responds, bytes_of, response_text};
 ghost use Rattle.st_devices.specs.Tallies.{device_of};
 ghost use Rattle.st_end.specs.State as state;
-ghost use Rattle.ilpstream_serving.specs.Answering.{Answers, IsWholeAt};
-ghost use Rattle.ilpstream_ends.specs.Replies.{IsLater, IsOpenedFor, IsReply, IsReplyFor, bytes_opened, no_end};
+ghost use Rattle.ilpstream_serving.specs.Answering.{IsWholeAt};
+ghost use Rattle.ilpstream_ends.specs.Replies.{AnswersBody, AnswersFor, IsLater, IsOpenedFor, bytes_opened, no_end};
 
 use crate::receiver::Receiver;
 use st_devices::Counting;
@@ -68,17 +69,15 @@ fn opened_bytes(alloc: Global, keys: &Keys, bytes: &[u8]) -> Option<Opened<Globa
     }
 }
 
-/// A request of one of the threads of the named receiver, opened for its end. Contracts see it as its bytes; `None` if
-/// memory for them was refused.
+/// The body of a request, opened for the end of the named receiver. Contracts see it as its bytes; `None` if memory for a
+/// copy of them was refused.
 #[derive(Drop)]
-pub(crate) struct Asked<N: ReceiverName> {
-    /// The number of the thread.
-    by: u8,
+struct OpenedBody<N: ReceiverName> {
     opened: Option<Opened<Global>>,
     of: PhantomData<N>,
 }
 
-impl<N: ReceiverName> Model for Asked<N> {
+impl<N: ReceiverName> Model for OpenedBody<N> {
     ghost use Rattle.std.specs.Prelude.{ℕ, List, Option};
     ghost use Rattle.ilpstream_ends.specs.Replies.{IsOpenedFor, bytes_opened};
 
@@ -89,89 +88,24 @@ impl<N: ReceiverName> Model for Asked<N> {
     ghost invariant = { λ a. IsOpenedFor N.start.keys a.opened };
 }
 
-impl<N: ReceiverName> Asked<N> {
-    /// Opens the bytes of a request.
-    pub(crate) fn of(alloc: Global, keys: &OpeningKeys<N>, by: u8, bytes: &[u8]) -> Asked<N>
-        ensures { IfSome result (λ asked. asked ≡ bytes.now) }
+impl<N: ReceiverName> OpenedBody<N> {
+    /// Opens these bytes.
+    fn of(alloc: Global, keys: &OpeningKeys<N>, bytes: &[u8]) -> OpenedBody<N>
+        ensures { IfSome result (λ opened. opened ≡ bytes.now) }
     {
-        Asked {
-            by,
+        OpenedBody {
             opened: opened_bytes(alloc, &keys.keys, bytes),
             of: PhantomData,
         }
     }
 
-    /// Has the end of the named receiver judge the request. Gives the number of the thread, too.
-    #[tactic(auto, using(crate::proofs::Keeping::answers_some))]
-    pub(crate) fn judged<K: Clock>(self, receiver: &mut Receiver<K>) -> (u8, Answered<N>)
+    /// The answer that the end of the named receiver gives to these bytes.
+    fn judged<K: Clock>(&self, receiver: &mut Receiver<K>) -> Option<Vec<u8>>
         requires { IsLater N.start receiver.old.end }
-        ensures same { result.1.0 ≡ self }
-        ensures judged { (bytes : List ℕ) × Answers receiver.old.end bytes result.1.1 receiver.new.end }
+        ensures { AnswersFor receiver.old.end self.now (bytes_of (λ v. v.items) result) receiver.new.end }
     {
-        let Asked { by, opened, .. } = self;
-        let answer = receiver.answer(&opened);
-        (by, Answered::new(opened, answer))
+        receiver.answer(&self.opened)
     }
-}
-
-/// The answer that the end of the named receiver gave to a request. Contracts see it as the request's bytes, if there was
-/// memory for them, and the answer, if there was for that.
-#[derive(Drop)]
-pub(crate) struct Answered<N: ReceiverName> {
-    /// `None` if memory was refused: then the answer is one to any bytes.
-    opened: Option<Opened<Global>>,
-    answer: Option<Vec<u8>>,
-    of: PhantomData<N>,
-}
-
-impl<N: ReceiverName> Model for Answered<N> {
-    ghost use Rattle.std.specs.Prelude.{ℕ, List, Option};
-    ghost use Rattle.st_http.specs.Serves.{bytes_of};
-    ghost use Rattle.ilpstream_ends.specs.Replies.{IsReplyFor, bytes_opened};
-
-    ghost Value = { Option (List ℕ) × Option (List ℕ) };
-
-    ghost view = { λ a. (bytes_opened a.opened, bytes_of (λ v. v.items) a.answer) };
-
-    ghost invariant = { λ a. IsReplyFor N.start (bytes_opened a.opened) (bytes_of (λ v. v.items) a.answer) };
-}
-
-impl<N: ReceiverName> Answered<N> {
-    fn new(opened: Option<Opened<Global>>, answer: Option<Vec<u8>>) -> Answered<N>
-        requires { IsReplyFor N.start (bytes_opened opened) (bytes_of (λ v. v.items) answer) }
-        ensures { (result.0 ≡ bytes_opened opened) × (result.1 ≡ bytes_of (λ v. v.items) answer) }
-    {
-        Answered {
-            opened,
-            answer,
-            of: PhantomData,
-        }
-    }
-
-    /// The answer, if it is one to these bytes.
-    #[tactic(auto, using(crate::proofs::Keeping::reply_to_any))]
-    fn for_bytes(self, bytes: &[u8]) -> Option<Option<Vec<u8>>>
-        ensures { IfSome result (λ answer. IsReply N.start bytes.now (bytes_of (λ v. v.items) answer)) }
-    {
-        let Answered { opened, answer, .. } = self;
-        match &opened {
-            None => Some(answer),
-            Some(opened) => {
-                if is_of(opened, bytes) {
-                    Some(answer)
-                } else {
-                    None
-                }
-            }
-        }
-    }
-}
-
-/// Whether these are the bytes that were opened.
-fn is_of(opened: &Opened<Global>, bytes: &[u8]) -> bool
-    ensures { IsTrue result ↔ (opened.now.bytes.items ≡ bytes.now) }
-{
-    opened.bytes.as_slice() == bytes
 }
 
 /// Gives one answer, which was made before.
@@ -206,24 +140,62 @@ fn respond_with<T: Write>(
     respond(alloc, stream, reading, &mut prepared, turns)
 }
 
-/// Writes the response to a request to a stream: what the end of the named receiver answered to its body. `None` if the
-/// answer is one to other bytes; then nothing is written.
-pub(crate) fn reply<N: ReceiverName, T: Write>(
-    alloc: Global,
-    stream: &mut Counting<T>,
-    reading: &Reading<'_, Global>,
-    answered: Answered<N>,
-    turns: &mut u64,
-) -> Option<Result<(), HttpError>>
-    requires { IsWholeAt reading.now.standing }
-    ensures { MatchOption result (stream.new ≡ stream.old) (λ done. (body : List ℕ) × (answer : Option (List ℕ)) × (body_of reading.now.standing ≡ Some body) × IsReply N.start body answer
-        × Responds (T.contents (device_of stream.old)) (T.contents (device_of stream.new)) (response_text answer) done) }
-{
-    let Some(body) = reading.body() else {
-        return None;
-    };
-    match answered.for_bytes(body) {
-        Some(answer) => Some(respond_with(alloc, stream, reading, answer, turns)),
-        None => None,
+/// A request that has arrived intact, with its connection, opened for the end of the named receiver.
+#[derive(Drop)]
+pub(crate) struct Asked<'a, N: ReceiverName, T> {
+    stream: Counting<T>,
+    reading: Reading<'a, Global>,
+    /// The I/O calls that are left to the connection.
+    turns: u64,
+    body: OpenedBody<N>,
+    ghost whole: { IsWholeAt reading.standing },
+    ghost same: { ForSome body (λ bytes. body_of reading.standing ≡ Some bytes) },
+}
+
+impl<'a, N: ReceiverName, T> Asked<'a, N, T> {
+    /// Opens the body of a request that has arrived intact on a connection, of which `turns` I/O calls are left.
+    #[tactic(auto, using(crate::proofs::Keeping::body_opened))]
+    pub(crate) fn of(
+        alloc: Global,
+        keys: &OpeningKeys<N>,
+        stream: Counting<T>,
+        reading: Reading<'a, Global>,
+        turns: u64,
+    ) -> Asked<'a, N, T>
+        requires { IsWholeAt reading.standing }
+        ensures { (result.stream ≡ stream) × (result.reading ≡ reading.entry) × (result.turns ≡ turns) }
+    {
+        let body = OpenedBody::of(alloc, keys, reading.body().unwrap());
+        Asked {
+            stream,
+            reading,
+            turns,
+            body,
+        }
+    }
+}
+
+impl<N: ReceiverName, T: Write> Asked<'_, N, T> {
+    /// Has the end of the named receiver judge the request, and writes its answer as the response. What fails on the
+    /// connection ends it alone. A response is at most some kilobytes, and the first that is written to its connection. So
+    /// the write does not wait for the peer, and the stream's deadline bounds it in any case.
+    #[tactic(auto, using(crate::proofs::Keeping::answers_body))]
+    pub(crate) fn answer<K: Clock>(
+        &mut self,
+        alloc: Global,
+        receiver: &mut Receiver<K>,
+    ) -> Result<(), HttpError>
+        requires { IsLater N.start receiver.old.end }
+        ensures { (answer : Option (List ℕ)) × AnswersBody receiver.old.end self.old.reading.standing answer receiver.new.end
+            × Responds (T.contents (device_of self.old.stream)) (T.contents (device_of self.new.stream)) (response_text answer) result }
+    {
+        let answer = self.body.judged(receiver);
+        respond_with(
+            alloc,
+            &mut self.stream,
+            &self.reading,
+            answer,
+            &mut self.turns,
+        )
     }
 }

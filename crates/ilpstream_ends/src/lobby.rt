@@ -298,7 +298,6 @@ where
         from: SocketAddr,
         time: Option<Duration>,
     ) -> Guest<'a, L::Stream, R> {
-        let _ = stream.set_nodelay(true);
         let most = Duration::from_secs(ANSWER_SECONDS);
         let time = time.map_or(most, |left| left.min(most));
         let answer = Duration::from_secs(WRITE_SECONDS);

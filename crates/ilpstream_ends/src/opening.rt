@@ -3,11 +3,11 @@
 ghost use Rattle.std.specs.Prelude.{◌≡◌, ◌<◌, Err, IfOk, IfSome, vec_len};
 ghost use Rattle.ilpstream_serving.specs.Answering.{IsWholeAt};
 
-use crate::asked::{Answered, Asked, OpeningKeys, ReceiverName, reply};
+use crate::asked::{Asked, OpeningKeys, ReceiverName};
 use crate::lobby::{Guest, Lobby, MOST_GUESTS};
 use crate::readers::Leaves;
-use crate::requests::{Mailbox, Requests};
-use ilpstream_serving::{AwaitListener, ReceiveTerms, shut};
+use crate::requests::Requests;
+use ilpstream_serving::{AwaitListener, ReceiveTerms, Timed, shut};
 use std::alloc::Global;
 use std::io::{Read, Write};
 use std::net::OpenStream;
@@ -19,14 +19,12 @@ use std::time::Clock;
 
 /// What the threads of a receiver share.
 #[derive(Drop)]
-pub(crate) struct Shared<'a, N: ReceiverName, L> {
+pub(crate) struct Shared<'a, N: ReceiverName, L: AwaitListener, R: Clock> {
     pub(crate) alloc: Global,
     pub(crate) listener: &'a L,
     pub(crate) tokens: &'a [&'a str],
     pub(crate) keys: OpeningKeys<N>,
-    pub(crate) requests: Requests<N>,
-    /// One for each thread that reads requests, by its number.
-    pub(crate) mailboxes: Vec<Mailbox<N>>,
+    pub(crate) requests: Requests<Asked<'a, N, Timed<'a, L::Stream, R>>>,
     /// Locked by the thread that waits for a new connection: of those without a connection one at a time does.
     pub(crate) turn: Mutex<()>,
     /// How many threads are without a connection.
@@ -34,21 +32,11 @@ pub(crate) struct Shared<'a, N: ReceiverName, L> {
     pub(crate) terms: ReceiveTerms<'a>,
 }
 
-impl<N: ReceiverName, L: AwaitListener> Shared<'_, N, L> {
-    /// Gives a thread the answer to its request.
-    pub(crate) fn answer(&self, rt: &impl Wait, by: u8, answered: Answered<N>) {
-        if let Some(mailbox) = self.mailboxes.get(usize::from(by)) {
-            mailbox.put(rt, answered);
-        }
-    }
-
-    /// Has each thread that reads requests end: no further connection is accepted, and those that wait for an answer get
-    /// none.
+impl<N: ReceiverName, L: AwaitListener, R: Clock> Shared<'_, N, L, R> {
+    /// Has each thread that reads requests end: no further connection is accepted. Requests that still wait get no response:
+    /// they are dropped, with their connections, once nothing is shared any more.
     pub(crate) fn end(&self, rt: &impl Wait) {
         self.requests.end(rt);
-        for mailbox in &self.mailboxes {
-            mailbox.close(rt);
-        }
         shut(self.listener);
     }
 
@@ -73,7 +61,7 @@ fn share_of(turns: u64, threads: u8, is_first: bool) -> u64 {
 /// request has arrived intact, and fails if the thread is to end.
 fn turn<'g, N: ReceiverName, L: AwaitListener, R: Wait + Clock>(
     rt: &R,
-    shared: &Shared<'_, N, L>,
+    shared: &Shared<'_, N, L, R>,
     lobby: &mut Lobby<'g, L, R>,
     accepts: bool,
 ) -> Result<Option<Guest<'g, L::Stream, R>>, Leaves>
@@ -102,7 +90,7 @@ where
 /// further one only if no thread is without: so no connection waits for a thread that is busy while another is free.
 fn turn_by_turn<'g, N: ReceiverName, L: AwaitListener, R: Wait + Clock>(
     rt: &R,
-    shared: &Shared<'_, N, L>,
+    shared: &Shared<'_, N, L, R>,
     lobby: &mut Lobby<'g, L, R>,
 ) -> Result<Option<Guest<'g, L::Stream, R>>, Leaves>
 where
@@ -123,52 +111,30 @@ where
     turned
 }
 
-/// Opens the body of a request, has it judged, and waits for the answer. `None` if there is none.
-fn asked<N: ReceiverName, L: AwaitListener>(
-    rt: &impl Wait,
-    shared: &Shared<'_, N, L>,
-    by: u8,
-    body: &[u8],
-) -> Option<Answered<N>> {
-    let asked = Asked::of(shared.alloc, &shared.keys, by, body);
-    match (
-        shared.mailboxes.get(usize::from(by)),
-        shared.requests.put(rt, asked),
-    ) {
-        (Some(mailbox), Ok(())) => mailbox.take(rt),
-        _ => None,
-    }
-}
-
-/// Has a request judged, writes the answer to it, and ends the connection. What fails on the connection ends it alone.
-fn serve<N: ReceiverName, L: AwaitListener, S: Read + Write + OpenStream + Drop, R: Wait + Clock>(
+/// Opens the body of a request, and has it wait to be judged and answered, once fewer than 16 do. If memory is refused for
+/// that, its connection ends without a response.
+fn hand_over<'a, N: ReceiverName, L: AwaitListener, R: Wait + Clock>(
     rt: &R,
-    shared: &Shared<'_, N, L>,
-    by: u8,
-    guest: Guest<'_, S, R>,
+    shared: &Shared<'a, N, L, R>,
+    guest: Guest<'a, L::Stream, R>,
 )
     requires { IsWholeAt guest.reading.standing }
 {
     let Guest {
-        mut stream,
+        stream,
         reading,
-        mut turns,
+        turns,
         ..
     } = guest;
-    let Some(body) = reading.body() else {
-        return;
-    };
-    if let Some(answered) = asked(rt, shared, by, body) {
-        let _ = reply(shared.alloc, &mut stream, &reading, answered, &mut turns);
-    }
+    let asked = Asked::of(shared.alloc, &shared.keys, stream, reading, turns);
+    let _ = shared.requests.put(rt, asked);
 }
 
-/// Reads requests at a thread's connections, and has each answered, until the thread is to end.
-fn serve_all<L: AwaitListener, N: ReceiverName, R: Wait + Clock>(
+/// Reads requests at a thread's connections, and has each wait to be answered, until the thread is to end.
+fn read_all<'a, L: AwaitListener, N: ReceiverName, R: Wait + Clock>(
     rt: &R,
-    shared: &Shared<'_, N, L>,
-    by: u8,
-    lobby: &mut Lobby<'_, L, R>,
+    shared: &Shared<'a, N, L, R>,
+    lobby: &mut Lobby<'a, L, R>,
 ) -> Leaves
 where
     L::Stream: Read + Write + OpenStream,
@@ -177,7 +143,7 @@ where
 {
     for _ in rt.forever() {
         match turn_by_turn(rt, shared, lobby) {
-            Ok(Some(guest)) => serve(rt, shared, by, guest),
+            Ok(Some(guest)) => hand_over(rt, shared, guest),
             Ok(None) => {}
             Err(leaves) => return leaves,
         }
@@ -185,11 +151,11 @@ where
     unreachable!()
 }
 
-/// A thread of a receiver, by its number: it has its share of the connections.
-fn open_alone<N: ReceiverName, L: AwaitListener, R: Wait + Clock>(
-    rt: &R,
-    shared: &Shared<'_, N, L>,
-    by: u8,
+/// A thread of a receiver: it has its share of the connections.
+fn open_alone<'a, N: ReceiverName, L: AwaitListener, R: Wait + Clock>(
+    rt: &'a R,
+    shared: &Shared<'a, N, L, R>,
+    is_first: bool,
 )
 where
     L::Stream: Read + Write + OpenStream,
@@ -206,33 +172,34 @@ where
         shared.listener,
         shared.tokens,
         turns,
-        share_of(turns, workers, by == 0),
+        share_of(turns, workers, is_first),
         MOST_GUESTS / usize::from(workers.max(1)),
         log,
     );
-    let leaves = serve_all(rt, shared, by, &mut lobby);
+    let leaves = read_all(rt, shared, &mut lobby);
     shared.requests.leave(rt, leaves);
 }
 
 /// Reads requests by as many threads as the terms say, this one among them, or by fewer if not all can be made. Returns once
 /// each has ended.
 pub(crate) fn open_all<
-    'a,
+    's,
+    'a: 's,
     N: ReceiverName + Send + Sync,
     L: AwaitListener + Send + Sync,
     R: Threads + Wait + Clock + Sync,
->(rt: &'a R, shared: &'a Shared<'a, N, L>)
+>(rt: &'a R, shared: &'s Shared<'a, N, L, R>)
 where
     L::Stream: Read + Write + OpenStream + Send,
 {
     let threads = shared.terms.workers.max(1);
     shared.requests.begin(rt, threads);
     thread::scope(thread::scope_env(), rt, move |scope| {
-        for by in 1..threads {
-            if scope.spawn(move || open_alone(rt, shared, by)).is_err() {
+        for _ in 1..threads {
+            if scope.spawn(move || open_alone(rt, shared, false)).is_err() {
                 shared.requests.leave(rt, Leaves::Done);
             }
         }
-        open_alone(rt, shared, 0);
+        open_alone(rt, shared, true);
     });
 }

@@ -14,16 +14,15 @@ use crate::ends::ReceivingEnd;
 use crate::opening::{Shared, open_all};
 use crate::readers::Readers;
 use crate::receiver::Receiver;
-use crate::requests::{Mailbox, Requests};
+use crate::requests::Requests;
 use ilpstream_serving::{
-    AwaitListener, Ended, Idle, Patience, ReceiveTerms, TransferError, Watch, accept_without_waits,
-    tell_end, tell_refused,
+    AwaitListener, Ended, Idle, Patience, ReceiveTerms, Timed, TransferError, Watch,
+    accept_without_waits, tell_end, tell_refused,
 };
 use st_devices::Counting;
-use st_end::EndError;
 use st_keys::Keys;
 use st_links::Clock;
-use std::alloc::{AllocError, Global};
+use std::alloc::Global;
 use std::io::{Read, Write};
 use std::marker::Brand;
 use std::net::OpenStream;
@@ -35,13 +34,13 @@ use std::thread::{Threads, join_mut};
 ///
 /// Fails with `Silent` if none arrived for as long as the patience lasts; with `Turns` if no further connection may be
 /// accepted and none is left, as once `idle` says that it is stopped; with `Accept` if the listener gives no connection.
-fn next_request<N: ReceiverName, L: AwaitListener, R: Wait + std::time::Clock, V: Watch>(
+fn next_request<'a, N: ReceiverName, L: AwaitListener, R: Wait + std::time::Clock, V: Watch>(
     rt: &R,
-    shared: &Shared<'_, N, L>,
+    shared: &Shared<'a, N, L, R>,
     patience: &Patience,
     readers: &mut Readers,
     idle: &mut Idle<'_, V>,
-) -> Result<Asked<N>, TransferError>
+) -> Result<Asked<'a, N, Timed<'a, L::Stream, R>>, TransferError>
     ensures silent { IfErr result (λ e. e ≡ Silent → IsSome patience.now.time) }
     ensures turned { result ≡ Err Turns → HaveEnded readers.new }
     ensures unaccepted { result ≡ Err Accept → HaveFailed readers.new }
@@ -60,8 +59,8 @@ fn next_request<N: ReceiverName, L: AwaitListener, R: Wait + std::time::Clock, V
     unreachable!()
 }
 
-/// Judges the requests that other threads opened, and writes what arrives, until the stream ended. `readers` is as those
-/// threads were when it last looked.
+/// Judges and answers the requests that other threads opened, and writes what arrives, until the stream ended. `readers` is as
+/// those threads were when it last looked.
 fn judge_all<
     N: ReceiverName,
     L: AwaitListener,
@@ -71,12 +70,14 @@ fn judge_all<
     V: Watch,
 >(
     rt: &R,
-    shared: &Shared<'_, N, L>,
+    shared: &Shared<'_, N, L, R>,
     receiver: &mut Receiver<K>,
     writer: &mut Counting<W>,
     readers: &mut Readers,
     watch: &mut V,
 ) -> Result<u64, TransferError>
+where
+    L::Stream: Write + OpenStream,
     requires { N.start ≡ receiver.old.end }
     ensures told { Receives receiver.old.end receiver.new.end (W.contents (device_of writer.old)) (W.contents (device_of writer.new)) result }
     ensures flushed { OnOk result ((tally_of writer.new).flushed ≡ true) }
@@ -97,15 +98,15 @@ fn judge_all<
             totals: receiver.end.totals(),
             last,
         };
-        let asked = match next_request(rt, shared, &patience, readers, &mut idle) {
+        let mut asked = match next_request(rt, shared, &patience, readers, &mut idle) {
             Ok(asked) => asked,
             Err(TransferError::Silent) => return Err(TransferError::Silent),
             Err(TransferError::Turns) => return Err(TransferError::Turns),
             Err(TransferError::Accept) => return Err(TransferError::Accept),
             Err(_) => unreachable!(),
         };
-        let (by, answered) = asked.judged(receiver);
-        shared.answer(rt, by, answered);
+        let _ = asked.answer(shared.alloc, receiver);
+        drop(asked);
         tell_refused(rt, shared.terms.log, receiver.refused);
         if let Some(refusal) = &receiver.refused {
             last = Some(refusal.brief());
@@ -130,11 +131,13 @@ fn judge_and_end<
     V: Watch,
 >(
     rt: &R,
-    shared: &Shared<'_, N, L>,
+    shared: &Shared<'_, N, L, R>,
     receiver: &mut Receiver<K>,
     writer: &mut Counting<W>,
     watch: &mut V,
 ) -> Result<u64, TransferError>
+where
+    L::Stream: Write + OpenStream,
     requires { N.start ≡ receiver.old.end }
     ensures told { Receives receiver.old.end receiver.new.end (W.contents (device_of writer.old)) (W.contents (device_of writer.new)) result }
     ensures flushed { OnOk result ((tally_of writer.new).flushed ≡ true) }
@@ -147,21 +150,10 @@ fn judge_and_end<
     result
 }
 
-/// A mailbox for each of this number of threads.
-fn mailboxes_of<N: ReceiverName>(
-    alloc: Global,
-    threads: u8,
-) -> Result<Vec<Mailbox<N>>, AllocError> {
-    let mut mailboxes = Vec::new(alloc);
-    for _ in 0..threads {
-        mailboxes.push(Mailbox::new())?;
-    }
-    Ok(mailboxes)
-}
-
-/// Reads and opens requests by further threads, and judges them in this one, until the stream ended.
+/// Reads and opens requests by further threads, and judges and answers them in this one, until the stream ended.
 fn receive_beside<
-    'a,
+    's,
+    'a: 's,
     N: ReceiverName + Send + Sync,
     L: AwaitListener + Send + Sync,
     R: Threads + Wait + std::time::Clock + Sync,
@@ -170,7 +162,7 @@ fn receive_beside<
     V: Watch,
 >(
     rt: &'a R,
-    shared: &'a Shared<'a, N, L>,
+    shared: &'s Shared<'a, N, L, R>,
     receiver: &mut Receiver<K>,
     writer: &mut Counting<W>,
     watch: &mut V,
@@ -226,16 +218,12 @@ where
     ensures patient { result ≡ Err Silent → IsSome terms.entry.patience }
 {
     let alloc = receiver.alloc;
-    let Ok(mailboxes) = mailboxes_of::<N>(alloc, terms.workers.max(1)) else {
-        return Err(TransferError::End(EndError::NoMemory));
-    };
     let shared = Shared {
         alloc,
         listener,
         tokens,
         keys: OpeningKeys::<N>::new(keys),
         requests: Requests::new(alloc, Patience::new(rt, terms.patience)),
-        mailboxes,
         turn: Mutex::new(()),
         free: AtomicU64::new(0),
         terms,
@@ -280,19 +268,21 @@ where
 
 /// Runs a receiver: answers the requests with the bearer token of the terms that arrive at `listener`, over ILP over
 /// HTTP (RFC 0035, the synchronous mode). `terms.workers` threads read and open them, and this one judges them, one
-/// after another. The answers are those of `end`, which sends no Prepare of its own. The bytes that arrive on stream 1
-/// are written to `writer` (RFC 0029): after each request what can be read then, before the next request is judged. The
-/// result is the number of bytes written, once the stream ended cleanly and the request that brought its end was
-/// answered.
+/// after another, and writes the response of each. The answers are those of `end`, which sends no Prepare of its own. The
+/// bytes that arrive on stream 1 are written to `writer` (RFC 0029): after each response what can be read then, before
+/// the next request is judged. The result is the number of bytes written, once the stream ended cleanly and the request
+/// that brought its end was answered. Requests that still wait then get no response: their connections are closed.
 ///
 /// Up to 256 connections are read at once, by each thread an equal share of them, so that none that is silent or slow
 /// delays another; if one more arrives at a thread, its oldest is closed. `clock` gives the moments at which Prepares
 /// arrive. `rt` is the runtime that measures time: a request may take 30 seconds to arrive, and no longer than the
-/// receiver's patience; its answer may be written until then, and for 5 seconds at least. A valid request is one that
-/// is answered by the end: the patience begins again once what it brought is written. After each request, stream 1 and
-/// the output together are called at most `terms.turns` times. A connection that fails, is cut off, is too slow or uses
-/// up its I/O calls ends alone. The progress of the transfer is reported to `watch` each time that the receiver waited:
-/// for what arrives, and for a period at most.
+/// receiver's patience; its answer may be written until then, and for 5 seconds at least. A response is at most some
+/// kilobytes, and nothing else is written to its connection, so that the write does not wait for the peer. Up to 16
+/// requests wait to be judged; a thread with one more waits meanwhile. A valid request is one that is answered by the
+/// end: the patience begins again once what it brought is written. After each request, stream 1 and the output together
+/// are called at most `terms.turns` times. A connection that fails, is cut off, is too slow or uses up its I/O calls
+/// ends alone. The progress of the transfer is reported to `watch` each time that the receiver waited: for what
+/// arrives, and for a period at most.
 ///
 /// The result is `Accept` if each thread has ended, and one of them since the listener gave it no connection 100 times
 /// in a row while none was open, or if no thread can be made; `Silent` if no valid request arrived for as long as the

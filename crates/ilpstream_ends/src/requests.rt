@@ -4,7 +4,6 @@ ghost use Rattle.std.specs.Prelude.{◌≡◌, ◌∷◌, [], ◌++◌, false, E
 ghost use Rattle.ilpstream_ends.specs.Lobby.{HaveEnded, HaveFailed, IsOfLobby};
 ghost use Rattle.ilpstream_serving.specs.declared.error.TransferError.TheVariants.{Accept, Silent, Turns};
 
-use crate::asked::{Answered, Asked, ReceiverName};
 use crate::readers::{Leaves, Readers};
 use ilpstream_serving::{Patience, TransferError, deadline_in, left_until};
 use std::alloc::{AllocError, Global};
@@ -14,19 +13,26 @@ use std::time::{Clock, Duration};
 /// How many seconds the thread of the end waits for those that read requests to begin.
 const BEGIN_SECONDS: u64 = 10;
 
+/// How many requests may wait to be judged. A thread with one more waits until fewer do.
+const MOST_WAITING: usize = 16;
+
 /// The requests that wait, and the threads that read them.
 #[derive(Drop)]
-struct Queue<N: ReceiverName> {
+struct Queue<T> {
     /// Those that are to be judged, in the order in which they were opened.
-    asked: Vec<Asked<N>>,
+    asked: Vec<T>,
     readers: Readers,
     /// How long the receiver still waits for a request, as it last said.
     patience: Patience,
+    /// Whether the thread of the end waits for a request, and was not signalled since.
+    is_awaited: bool,
+    /// Whether a thread waits until fewer requests do, and was not signalled since.
+    is_crowded: bool,
 }
 
-impl<N: ReceiverName> Queue<N> {
+impl<T: Drop> Queue<T> {
     /// A request waits, after those that do. Fails if memory is refused.
-    fn put(&mut self, asked: Asked<N>) -> Result<(), AllocError>
+    fn put(&mut self, asked: T) -> Result<(), AllocError>
         ensures last { OnOk result (self.new.asked.items ≡ self.old.asked.items ++ asked ∷ []) }
         ensures unchanged { OnErr result (self.new.asked.items ≡ self.old.asked.items) }
     {
@@ -35,7 +41,7 @@ impl<N: ReceiverName> Queue<N> {
     }
 
     /// The request that waits longest.
-    fn take(&mut self) -> Option<Asked<N>>
+    fn take(&mut self) -> Option<T>
         ensures first { IfSome result (λ asked. self.old.asked.items ≡ asked ∷ self.new.asked.items) }
         ensures none { IfNone result (self.old.asked.items ≡ []) }
         ensures readers { self.new.readers ≡ self.old.readers }
@@ -48,7 +54,7 @@ impl<N: ReceiverName> Queue<N> {
 
     /// The request that waits longest. Fails if none does, and none will: with `Accept` if a thread ended because the listener
     /// gave no connection, and else with `Turns`.
-    fn next(&mut self) -> Result<Option<Asked<N>>, TransferError>
+    fn next(&mut self) -> Result<Option<T>, TransferError>
         ensures known { IfErr result IsOfLobby }
         ensures silent { IfErr result (λ e. ¬ (e ≡ Silent)) }
         ensures turned { result ≡ Err Turns → (self.old.asked.items ≡ []) × HaveEnded self.old.readers }
@@ -76,24 +82,29 @@ pub(crate) struct Pace {
 
 /// The requests of a receiver under a lock, with what the thread of its end waits for.
 #[derive(Drop)]
-pub(crate) struct Requests<N: ReceiverName> {
-    queue: Mutex<Queue<N>>,
+pub(crate) struct Requests<T> {
+    queue: Mutex<Queue<T>>,
     /// Signalled when a request waits, or a thread that reads them begins or ends.
     came: Condvar,
+    /// Signalled when fewer requests wait, or the transfer is over.
+    room: Condvar,
 }
 
 // Each function here that acquires the lock releases it before it returns.
 
-impl<N: ReceiverName> Requests<N> {
+impl<T: Drop> Requests<T> {
     /// None yet, and no thread.
-    pub(crate) fn new(alloc: Global, patience: Patience) -> Requests<N> {
+    pub(crate) fn new(alloc: Global, patience: Patience) -> Requests<T> {
         Requests {
             queue: Mutex::new(Queue {
                 asked: Vec::new(alloc),
                 readers: Readers::none(),
                 patience,
+                is_awaited: false,
+                is_crowded: false,
             }),
             came: Condvar::new(),
+            room: Condvar::new(),
         }
     }
 
@@ -121,10 +132,23 @@ impl<N: ReceiverName> Requests<N> {
         })
     }
 
-    /// Has a request wait. Fails if memory is refused.
-    pub(crate) fn put(&self, rt: &impl Wait, asked: Asked<N>) -> Result<(), AllocError> {
-        let put = self.queue.lock(rt).put(asked);
-        self.came.notify_one();
+    /// Has a request wait, once fewer than 16 do or the transfer is over. It is dropped if memory is refused.
+    pub(crate) fn put(&self, rt: &impl Wait, asked: T) -> Result<(), AllocError> {
+        let mut queue = self.queue.lock(rt);
+        for _ in rt.forever() {
+            if queue.asked.len() < MOST_WAITING || queue.readers.is_over() {
+                break;
+            }
+            queue.is_crowded = true;
+            queue = self.room.wait(rt, queue);
+        }
+        let put = queue.put(asked);
+        let is_awaited = queue.is_awaited;
+        queue.is_awaited = false;
+        drop(queue);
+        if is_awaited {
+            self.came.notify_one();
+        }
         put
     }
 
@@ -136,6 +160,7 @@ impl<N: ReceiverName> Requests<N> {
     /// The transfer is over: each thread that reads requests is to end.
     pub(crate) fn end(&self, rt: &impl Wait) {
         self.queue.lock(rt).readers.end();
+        self.room.notify_all();
     }
 
     /// Waits until threads begin to read requests, for ten seconds at most. False if none did. `readers` is as they are then.
@@ -166,7 +191,7 @@ impl<N: ReceiverName> Requests<N> {
         patience: &Patience,
         period: Option<Duration>,
         readers: &mut Readers,
-    ) -> Result<Option<Asked<N>>, TransferError>
+    ) -> Result<Option<T>, TransferError>
         ensures silent { IfErr result (λ e. e ≡ Silent → IsSome patience.now.time) }
         ensures turned { result ≡ Err Turns → HaveEnded readers.new }
         ensures unaccepted { result ≡ Err Accept → HaveFailed readers.new }
@@ -175,6 +200,10 @@ impl<N: ReceiverName> Requests<N> {
         let mut queue = self.queue.lock(rt);
         queue.patience = *patience;
         *readers = queue.readers;
+        if queue.is_crowded {
+            queue.is_crowded = false;
+            self.room.notify_all();
+        }
         if let Some(asked) = queue.next()? {
             return Ok(Some(asked));
         }
@@ -182,62 +211,12 @@ impl<N: ReceiverName> Requests<N> {
             (Some(left), Some(period)) => Some(left.min(period)),
             (left, period) => left.or(period),
         };
+        queue.is_awaited = true;
         let mut queue = match time {
             Some(time) => self.came.wait_timeout(rt, queue, time).0,
             None => self.came.wait(rt, queue),
         };
+        queue.is_awaited = false;
         Ok(queue.take())
-    }
-}
-
-/// An answer for one thread, if there is one.
-#[derive(Drop)]
-struct Slot<N: ReceiverName> {
-    answered: Option<Answered<N>>,
-    /// Whether none will come any more.
-    is_closed: bool,
-}
-
-/// The answers for one thread that reads requests.
-#[derive(Drop)]
-pub(crate) struct Mailbox<N: ReceiverName> {
-    slot: Mutex<Slot<N>>,
-    /// Signalled when there is an answer, or none will come.
-    filled: Condvar,
-}
-
-impl<N: ReceiverName> Mailbox<N> {
-    pub(crate) fn new() -> Mailbox<N> {
-        Mailbox {
-            slot: Mutex::new(Slot {
-                answered: None,
-                is_closed: false,
-            }),
-            filled: Condvar::new(),
-        }
-    }
-
-    /// Puts an answer in.
-    pub(crate) fn put(&self, rt: &impl Wait, answered: Answered<N>) {
-        self.slot.lock(rt).answered = Some(answered);
-        self.filled.notify_one();
-    }
-
-    /// No answer will come any more.
-    pub(crate) fn close(&self, rt: &impl Wait) {
-        self.slot.lock(rt).is_closed = true;
-        self.filled.notify_one();
-    }
-
-    /// Waits for an answer, and takes it out. `None` if none will come.
-    pub(crate) fn take(&self, rt: &impl Wait) -> Option<Answered<N>> {
-        let mut slot = self.slot.lock(rt);
-        for _ in rt.forever() {
-            if slot.answered.is_some() || slot.is_closed {
-                return slot.answered.take();
-            }
-            slot = self.filled.wait(rt, slot);
-        }
-        unreachable!()
     }
 }

@@ -28,8 +28,8 @@ pub returns-in-Err-Accept-clause-told : goal.returns-in-Err-Accept-clause-told
 returns-in-Err-Accept-clause-told g c = (c.requests.written, c.requests.invariant.kept)
 
 -- the end that judges is a later one of the end that began
-pub judged-by-requires : goal.judged-by-requires
-judged-by-requires g c =
+pub answer-requires : goal.answer-requires
+answer-requires g c =
     let before = g.W.Write.contents (device_of c.args.writer.now) in
     let after = g.W.Write.contents (device_of c.requests.writer) in
     subst (λ start. IsLater start c.requests.receiver.end) (sym c.requires)
@@ -40,24 +40,24 @@ pub returns-in-Ok-Whole-clause-told : goal.returns-in-Ok-Whole-clause-told
 returns-in-Ok-Whole-clause-told g c =
     let before = g.W.Write.contents (device_of c.args.writer.now) in
     let after = g.W.Write.contents (device_of c.requests.writer) in
-    let asked = kept_answered c.args.receiver.now.end c.requests.receiver.end c.judged-by.new.receiver.end before after c.requests.written c.judged-by.ensures.judged.0 _
-    (kept_so_far c.args.receiver.now.end c.requests.receiver.end before after c.requests.written c.requests.invariant.kept) c.judged-by.ensures.judged.1 in
+    let asked = kept_answered c.args.receiver.now.end c.requests.receiver.end c.answer.new.receiver.end before after c.requests.written c.answer.ensures.1.0 c.answer.ensures.0
+    (kept_so_far c.args.receiver.now.end c.requests.receiver.end before after c.requests.written c.requests.invariant.kept) c.answer.ensures.1.2 in
     rw c.in-Ok-Whole.field-0-is at (c.in-Ok-Whole.ensures.kept c.args.receiver.now.end before asked)
 
 pub returns-in-Err-deliver-clause-told : goal.returns-in-Err-deliver-clause-told
 returns-in-Err-deliver-clause-told g c =
     let before = g.W.Write.contents (device_of c.args.writer.now) in
     let after = g.W.Write.contents (device_of c.requests.writer) in
-    let asked = kept_answered c.args.receiver.now.end c.requests.receiver.end c.judged-by.new.receiver.end before after c.requests.written c.judged-by.ensures.judged.0 _
-    (kept_so_far c.args.receiver.now.end c.requests.receiver.end before after c.requests.written c.requests.invariant.kept) c.judged-by.ensures.judged.1 in
+    let asked = kept_answered c.args.receiver.now.end c.requests.receiver.end c.answer.new.receiver.end before after c.requests.written c.answer.ensures.1.0 c.answer.ensures.0
+    (kept_so_far c.args.receiver.now.end c.requests.receiver.end before after c.requests.written c.requests.invariant.kept) c.answer.ensures.1.2 in
     c.in-Err-deliver.ensures.kept c.args.receiver.now.end before asked
 
 pub requests-preserved : goal.requests-preserved
 requests-preserved g c =
     let before = g.W.Write.contents (device_of c.args.writer.now) in
     let after = g.W.Write.contents (device_of c.requests.writer) in
-    let asked = kept_answered c.args.receiver.now.end c.requests.receiver.end c.judged-by.new.receiver.end before after c.requests.written c.judged-by.ensures.judged.0 _
-    (kept_so_far c.args.receiver.now.end c.requests.receiver.end before after c.requests.written c.requests.invariant.kept) c.judged-by.ensures.judged.1 in
+    let asked = kept_answered c.args.receiver.now.end c.requests.receiver.end c.answer.new.receiver.end before after c.requests.written c.answer.ensures.1.0 c.answer.ensures.0
+    (kept_so_far c.args.receiver.now.end c.requests.receiver.end before after c.requests.written c.requests.invariant.kept) c.answer.ensures.1.2 in
     record {
       kept = inr (rw c.in-Ok-More.field-0-is at (c.in-Ok-More.ensures.kept c.args.receiver.now.end before asked));
       faults = c.in-Ok-More.ensures.faults ∙ c.requests.invariant.faults;
