@@ -16,8 +16,8 @@ use crate::readers::Readers;
 use crate::receiver::Receiver;
 use crate::requests::Requests;
 use ilpstream_serving::{
-    AwaitListener, Ended, Idle, Patience, ReceiveTerms, Timed, TransferError, Watch,
-    accept_without_waits, tell_end, tell_refused,
+    AwaitListener, Ended, Idle, Patience, ReceiveTerms, TransferError, Watch, accept_without_waits,
+    tell_end, tell_refused,
 };
 use st_devices::Counting;
 use st_keys::Keys;
@@ -40,7 +40,7 @@ fn next_request<'a, N: ReceiverName, L: AwaitListener, R: Wait + std::time::Cloc
     patience: &Patience,
     readers: &mut Readers,
     idle: &mut Idle<'_, V>,
-) -> Result<Asked<'a, N, Timed<'a, L::Stream, R>>, TransferError>
+) -> Result<Asked<'a, N, L::Stream, R>, TransferError>
     ensures silent { IfErr result (λ e. e ≡ Silent → IsSome patience.now.time) }
     ensures turned { result ≡ Err Turns → HaveEnded readers.new }
     ensures unaccepted { result ≡ Err Accept → HaveFailed readers.new }
