@@ -20,6 +20,8 @@ use std::time::Clock;
 /// What the threads of a receiver share.
 #[derive(Drop)]
 pub(crate) struct Shared<'a, N: ReceiverName, L: AwaitListener, R: Clock> {
+    /// The runtime that measures time.
+    pub(crate) rt: &'a R,
     pub(crate) alloc: Global,
     pub(crate) listener: &'a L,
     pub(crate) tokens: &'a [&'a str],
