@@ -10,6 +10,7 @@ ghost use Rattle.ilpstream_serving.specs.Answering.{IsWholeAt};
 ghost use Rattle.ilpstream_ends.specs.Replies.{AnswersBody, AnswersFor, IsLater, IsOpenedFor, bytes_opened, no_end};
 
 use crate::receiver::Receiver;
+use ilpstream_serving::Timed;
 use st_devices::Counting;
 use st_end::Opened;
 use st_http::{Answerer, HttpError, Reading, respond};
@@ -18,6 +19,7 @@ use st_links::Clock;
 use std::alloc::Global;
 use std::io::Write;
 use std::marker::{Brand, Model, PhantomData};
+use std::net::OpenStream;
 
 /// Names a receiver by its end, as it was when its threads began. A name is created by calling a function with `Brand`.
 pub(crate) trait ReceiverName {
@@ -142,8 +144,8 @@ fn respond_with<T: Write>(
 
 /// A request that has arrived intact, with its connection, opened for the end of the named receiver.
 #[derive(Drop)]
-pub(crate) struct Asked<'a, N: ReceiverName, T> {
-    stream: Counting<T>,
+pub(crate) struct Asked<'a, N: ReceiverName, S, R: std::time::Clock> {
+    stream: Counting<Timed<'a, S, R>>,
     reading: Reading<'a, Global>,
     /// The I/O calls that are left to the connection.
     turns: u64,
@@ -152,18 +154,18 @@ pub(crate) struct Asked<'a, N: ReceiverName, T> {
     ghost same: { ForSome body (λ bytes. body_of reading.standing ≡ Some bytes) },
 }
 
-impl<'a, N: ReceiverName, T> Asked<'a, N, T> {
+impl<'a, N: ReceiverName, S, R: std::time::Clock> Asked<'a, N, S, R> {
     /// Opens the body of a request that has arrived intact on a connection, of which `turns` I/O calls are left.
     #[tactic(auto, using(crate::proofs::Keeping::body_opened))]
     pub(crate) fn of(
         alloc: Global,
         keys: &OpeningKeys<N>,
-        stream: Counting<T>,
+        stream: Counting<Timed<'a, S, R>>,
         reading: Reading<'a, Global>,
         turns: u64,
-    ) -> Asked<'a, N, T>
+    ) -> Asked<'a, N, S, R>
         requires { IsWholeAt reading.standing }
-        ensures { (result.stream ≡ stream) × (result.reading ≡ reading.entry) × (result.turns ≡ turns) }
+        ensures { (result.stream ≡ stream.entry) × (result.reading ≡ reading.entry) × (result.turns ≡ turns) }
     {
         let body = OpenedBody::of(alloc, keys, reading.body().unwrap());
         Asked {
@@ -175,7 +177,7 @@ impl<'a, N: ReceiverName, T> Asked<'a, N, T> {
     }
 }
 
-impl<N: ReceiverName, T: Write> Asked<'_, N, T> {
+impl<N: ReceiverName, S: Write + OpenStream, R: std::time::Clock> Asked<'_, N, S, R> {
     /// Has the end of the named receiver judge the request, and writes its answer as the response. What fails on the
     /// connection ends it alone. A response is at most some kilobytes, and the first that is written to its connection. So
     /// the write does not wait for the peer, and the stream's deadline bounds it in any case.
@@ -187,7 +189,7 @@ impl<N: ReceiverName, T: Write> Asked<'_, N, T> {
     ) -> Result<(), HttpError>
         requires { IsLater N.start receiver.old.end }
         ensures { (answer : Option (List ℕ)) × AnswersBody receiver.old.end self.old.reading.standing answer receiver.new.end
-            × Responds (T.contents (device_of self.old.stream)) (T.contents (device_of self.new.stream)) (response_text answer) result }
+            × Responds (S.contents (device_of self.old.stream).stream) (S.contents (device_of self.new.stream).stream) (response_text answer) result }
     {
         let answer = self.body.judged(receiver);
         respond_with(

@@ -7,7 +7,7 @@ use crate::asked::{Asked, OpeningKeys, ReceiverName};
 use crate::lobby::{Guest, Lobby, MOST_GUESTS};
 use crate::readers::Leaves;
 use crate::requests::Requests;
-use ilpstream_serving::{AwaitListener, ReceiveTerms, Timed, shut};
+use ilpstream_serving::{AwaitListener, ReceiveTerms, shut};
 use std::alloc::Global;
 use std::io::{Read, Write};
 use std::net::OpenStream;
@@ -20,11 +20,13 @@ use std::time::Clock;
 /// What the threads of a receiver share.
 #[derive(Drop)]
 pub(crate) struct Shared<'a, N: ReceiverName, L: AwaitListener, R: Clock> {
+    /// The runtime that measures time.
+    pub(crate) rt: &'a R,
     pub(crate) alloc: Global,
     pub(crate) listener: &'a L,
     pub(crate) tokens: &'a [&'a str],
     pub(crate) keys: OpeningKeys<N>,
-    pub(crate) requests: Requests<Asked<'a, N, Timed<'a, L::Stream, R>>>,
+    pub(crate) requests: Requests<Asked<'a, N, L::Stream, R>>,
     /// Locked by the thread that waits for a new connection: of those without a connection one at a time does.
     pub(crate) turn: Mutex<()>,
     /// How many threads are without a connection.

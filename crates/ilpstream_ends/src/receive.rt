@@ -16,8 +16,8 @@ use crate::readers::Readers;
 use crate::receiver::Receiver;
 use crate::requests::Requests;
 use ilpstream_serving::{
-    AwaitListener, Ended, Idle, Patience, ReceiveTerms, Timed, TransferError, Watch,
-    accept_without_waits, tell_end, tell_refused,
+    AwaitListener, Ended, Idle, Patience, ReceiveTerms, TransferError, Watch, accept_without_waits,
+    tell_end, tell_refused,
 };
 use st_devices::Counting;
 use st_keys::Keys;
@@ -40,7 +40,7 @@ fn next_request<'a, N: ReceiverName, L: AwaitListener, R: Wait + std::time::Cloc
     patience: &Patience,
     readers: &mut Readers,
     idle: &mut Idle<'_, V>,
-) -> Result<Asked<'a, N, Timed<'a, L::Stream, R>>, TransferError>
+) -> Result<Asked<'a, N, L::Stream, R>, TransferError>
     ensures silent { IfErr result (λ e. e ≡ Silent → IsSome patience.now.time) }
     ensures turned { result ≡ Err Turns → HaveEnded readers.new }
     ensures unaccepted { result ≡ Err Accept → HaveFailed readers.new }
@@ -189,6 +189,35 @@ where
     result
 }
 
+/// The same. Then nothing is shared any more: requests that still wait are dropped.
+fn receive_sharing<
+    'a,
+    N: ReceiverName + Send + Sync,
+    L: AwaitListener + Send + Sync,
+    R: Threads + Wait + std::time::Clock + Sync,
+    W: Write,
+    K: Clock,
+    V: Watch,
+>(
+    shared: Shared<'a, N, L, R>,
+    receiver: &mut Receiver<K>,
+    writer: &mut Counting<W>,
+    watch: &mut V,
+) -> Result<u64, TransferError>
+where
+    L::Stream: Read + Write + OpenStream + Send,
+    requires { N.start ≡ receiver.old.end }
+    ensures told { Receives receiver.old.end receiver.new.end (W.contents (device_of writer.old)) (W.contents (device_of writer.new)) result }
+    ensures flushed { OnOk result ((tally_of writer.new).flushed ≡ true) }
+    ensures faults { (tally_of writer.new).faults ≡ faults_reported result (tally_of writer.old).faults }
+    ensures patient { result ≡ Err Silent → IsSome shared.entry.terms.patience }
+{
+    let result = receive_beside(shared.rt, &shared, receiver, writer, watch);
+    // At the end of the scope it would be dropped too, but no proof is found then: a call knows its lifetimes.
+    drop(shared);
+    result
+}
+
 /// The same, under the name that was picked for the receiver. The keys are those of its end.
 fn receive_all<
     'a,
@@ -219,6 +248,7 @@ where
 {
     let alloc = receiver.alloc;
     let shared = Shared {
+        rt,
         alloc,
         listener,
         tokens,
@@ -228,7 +258,7 @@ where
         free: AtomicU64::new(0),
         terms,
     };
-    receive_beside(rt, &shared, receiver, writer, watch)
+    receive_sharing(shared, receiver, writer, watch)
 }
 
 /// Sets the stream's receive maximum, then answers requests and writes what arrives. The keys are those of the end.
