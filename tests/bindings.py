@@ -674,6 +674,16 @@ def run_wallets(count, out, room):
     count.add(good, f"the wallets: {[len(it) for it in received]} bytes arrived, {ends}")
 
 
+def run_level(count, archive, room):
+    """LEVEL=v3 marks the shared object, so that the loader refuses it on a processor without that level."""
+    words = [f"{TOP}/bind/build", "--archive", archive]
+    built = count.run("bind/build for x86-64-v3", words, "libilpstream.so", LEVEL="v3", OUT=f"{room}/v3")
+    if built and shutil.which("readelf"):
+        count.run("the level of the shared object", ["readelf", "-n", f"{room}/v3/libilpstream.so"], "x86 ISA needed: x86-64-v3")
+    refused = subprocess.run(words, env={**os.environ, "LEVEL": "v4"}, capture_output=True, check=False)
+    count.add(refused.returncode == 1, "bind/build accepts LEVEL=v4")
+
+
 def run_document(count):
     """The commands of docs/EMBEDDING.md."""
     for good, finding in readme.look_at_commands([readme.EMBEDDING], SECONDS):
@@ -694,6 +704,7 @@ def main():
                 run_rust(count, out, room)
                 run_python(count, out)
                 run_wallets(count, out, room)
+                run_level(count, archive, room)
                 run_document(count)
         finally:
             shutil.rmtree(room, ignore_errors=True)
