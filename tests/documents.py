@@ -527,14 +527,17 @@ LEVEL = r"x86-64-v(\d)"
 SAID = {
     "README.md": [
         (rf"`\./ilpstream` builds for the processor that it runs on: {LEVEL} \(AVX2[^)]*\), or else {LEVEL}", "program"),
-        (rf"The library needs {LEVEL}", "library"),
+        (rf"The library is built for {LEVEL}", "library"),
     ],
     "docs/OPERATING.md": [(rf"If that host has AVX2, it is built for level {LEVEL} and needs a processor with it; else {LEVEL} is enough", "program")],
     "SECURITY.md": [
         (rf"The tests check the program itself as they build it, for {LEVEL}", "kit"),
         (rf"`\./ilpstream` builds for {LEVEL} if the processor has it", "above"),
     ],
-    "docs/EMBEDDING.md": [(r"\(version (\d) of the instruction set", "library")],
+    "docs/EMBEDDING.md": [
+        (r"\(version (\d) of the instruction set", "library"),
+        (rf"`LEVEL=v3 bind/build` builds for {LEVEL}", "asked"),
+    ],
 }
 GLIBC = re.compile(r"(?:GLIBC|glibc)[ _](\d+\.\d+)|manylinux_(\d+_\d+)")
 
@@ -546,11 +549,12 @@ def flags_of(path):
 
 
 def levels():
-    """The levels for which the kit, the program and the library are built, each list from the highest to the lowest."""
+    """The levels for which the kit, the program and the library are built, each list from the highest to the lowest, and those for which
+    the library is built if that is asked for."""
     kit = re.findall(rf"asked or '{LEVEL}'", read("tests/timing.py"))
     above = flags_of("tools/build.py")
-    others = [*flags_of("bind/archive"), *flags_of("bind/build"), *flags_of("ilpstream"), *flags_of("bind/python/backend.py")]
-    return {"kit": kit, "above": above, "program": [*above, *kit], "library": others or kit}
+    library = [*flags_of("bind/archive"), *flags_of("ilpstream"), *flags_of("bind/python/backend.py")]
+    return {"kit": kit, "above": above, "program": [*above, *kit], "library": library or kit, "asked": flags_of("bind/build")}
 
 
 def dump(path, *words):
