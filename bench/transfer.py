@@ -1,10 +1,13 @@
 #!/usr/bin/env python3
-"""`send` to `receive` over loopback, manually, on a quiet machine: bench/transfer.py [PROGRAM] [--runs=N] [--level=v2|v3] [--many=N].
+"""`send` to `receive` over loopback, manually, on a quiet machine:
+
+    bench/transfer.py [PROGRAM] [--runs=N] [--level=v2|v3] [--bench=PROGRAM] [--many=N]
 
 16 MiB by 1, 4 and 16 workers, in bytes and exchanges a second by the clock, and in turns with these runs:
 
 - *limit*: the cipher and the hash alone, as both ends need them for as many bytes, on all processors at once (crates/bench, built for
-  the given level; without one, for that for which ./ilpstream is built here). It needs no other program.
+  the given level; without one, for that for which ./ilpstream is built here). It needs no other program. --bench names one that is
+  built already, which is not built again.
 - *TLS*: nginx and wrk over TLS 1.3 with AES-256-GCM, without the processor's AES instructions, over connections that stay open.
 - *plain*: nginx and wrk with a connection for each message, as ours: the price of HTTP.
 
@@ -87,11 +90,8 @@ class Transfers:
 class Alone:
     """The cipher and the hash alone, on all processors at once."""
 
-    def __init__(self, level):
-        folder = f"{TOP}/crates/bench"
-        print("proving and building bench, if it is older than its sources", file=sys.stderr)
-        subprocess.run(["rt", "run", *level, "--", "end", "0", "1", "0", "0"], cwd=folder, check=True, stdout=sys.stderr)
-        self.program = f"{folder}/out/bench"
+    def __init__(self, program):
+        self.program = program
 
     def rate(self):
         """Bytes a second that are sealed, opened, and hashed at both ends."""
@@ -100,6 +100,14 @@ class Alone:
         for it in [subprocess.Popen(words, stdout=subprocess.DEVNULL) for _ in range(PROCESSORS)]:
             it.wait()
         return PROCESSORS * packets * PIECE / (time.monotonic() - begun)
+
+
+def built_bench(level):
+    """The program of crates/bench, proved and built for this level if it is older than its sources."""
+    folder = f"{TOP}/crates/bench"
+    print("proving and building bench, if it is older than its sources", file=sys.stderr)
+    subprocess.run(["rt", "run", *level, "--", "end", "0", "1", "0", "0"], cwd=folder, check=True, stdout=sys.stderr)
+    return f"{folder}/out/bench"
 
 
 class Others:
@@ -197,7 +205,8 @@ def main():
             if lacking:
                 print(f"{' and '.join(lacking)} not installed, so nginx and wrk are not measured", file=sys.stderr)
             others = {} if lacking else {"TLS": Others(room, True), "plain": Others(room, False)}
-            compare(transfers, int(option("runs", "3")), Alone(build.level()), others)
+            alone = Alone(option("bench", "") or built_bench(build.level()))
+            compare(transfers, int(option("runs", "3")), alone, others)
             for it in others.values():
                 it.end()
         with open("/proc/loadavg", encoding="ascii") as file:
