@@ -20,14 +20,14 @@ from crates import BUILT, TOP, kit, read_crates, with_below, words
 PROGRAM = "ilpstream"
 # The processor's seconds that each crate takes from nothing, by the table in docs/GATE.md; those that are not here take OTHER.
 WEIGHTS = {
-    "st_world": 323, "st_sender": 310, "st_hop_books": 285, "ilpstream_net": 400, "st_hub": 275, "ilpstream_connector": 224,
-    "ilpstream_words": 224, "st_receiver": 218, "st_end": 210, "ilpstream_local": 170, "ilpstream_ends": 300,
-    "st_world_parts": 190, "ilpstream_settings": 184, "st_hop": 183, "st_world_quiet": 175, "st_aes": 165, "ilpstream": 161,
-    "ilpstream_frames": 158, "ilpstream_log": 137, "st_http": 130, "ilpstream_serving": 124, "st_ilp": 112, "st_queues": 100,
-    "st_reassembly": 84, "ilpstream_ledger": 83, "st_hop_desk": 79, "st_frames": 76, "ilpstream_main": 130, "st_unacked": 62, "st_oer": 57,
-    "st_file": 48, "st_devices": 41, "st_keys": 38, "st_links": 25, "st_lanes": 60, "ilpstream_explain": 12, "st_streams": 6,
+    "st_hop_books": 903, "ilpstream_net": 883, "ilpstream_ends": 701, "st_sender": 695, "ilpstream_words": 618, "st_world": 565,
+    "st_hub": 495, "ilpstream_connector": 443, "ilpstream_settings": 428, "st_end": 415, "st_hop": 365, "st_receiver": 354,
+    "ilpstream_frames": 353, "ilpstream_log": 347, "ilpstream_local": 343, "st_world_parts": 327, "st_hop_desk": 279,
+    "ilpstream_serving": 273, "st_http": 267, "ilpstream_main": 262, "st_aes": 250, "ilpstream": 240, "ilpstream_ledger": 236,
+    "st_frames": 200, "st_ilp": 197, "st_queues": 181, "st_unacked": 179, "st_reassembly": 135, "st_file": 115, "st_oer": 104,
+    "st_lanes": 90, "st_devices": 80, "st_keys": 64, "st_links": 57, "ilpstream_explain": 41, "st_streams": 33,
 }
-OTHER = 60
+OTHER = 100
 # Memory in bytes: what a check takes at most, and what each further job of it takes.
 CHECK, JOB = 3_500_000_000, 1_000_000_000
 MOST_JOBS = 3
