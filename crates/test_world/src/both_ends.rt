@@ -99,6 +99,7 @@ fn both_send(rt: &impl Abort, alloc: Global, numbers: &mut Numbers, bytes: &[u8]
         Some(ledger) => ledger.read() == ledger.written() && ledger.saw_end(),
         None => false,
     });
+    drop(world);
     are_told && client.is_bounded() && server.is_bounded()
 }
 

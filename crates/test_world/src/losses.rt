@@ -176,17 +176,19 @@ fn whole_of(trace: &Trace<Global>, plan: &Plan, bytes: &[u8]) -> usize {
     whole
 }
 
-/// A run. Its world ends in this function alone, since the prover takes long for each that drops one.
+/// A run. Its world is dropped by a call: if it ended with its scope, the proof would take it apart here.
 fn play(rt: &impl Abort, alloc: Global, plan: &Plan, numbers: &mut Numbers, bytes: &[u8]) -> Seen {
     let mut world = world(rt, alloc, plan.hops);
     begin_all(rt, &mut world, plan, bytes);
     let seen = send_all(rt, &mut world, plan, numbers);
-    Seen {
+    let seen = Seen {
         paid: world.trace().end(Side::Client).totals().paid,
         credited: world.trace().end(Side::Server).totals().credited,
         whole: whole_of(world.trace(), plan, bytes),
         ..seen
-    }
+    };
+    drop(world);
+    seen
 }
 
 pub(crate) fn bytes(rt: &impl Abort, alloc: Global) -> Vec<u8> {
@@ -282,6 +284,7 @@ fn play_list(rt: &impl Abort, alloc: Global, plan: &Plan, fates: &[Fate], bytes:
         Ok(played) => {
             let seen = seen_of(&played, plan, fates, bytes);
             sure!(rt; seen.credited.saturating_sub(seen.paid) == played.carried());
+            drop(played);
             seen
         }
         Err(_) => panic!(rt; "there is memory"),
@@ -332,13 +335,15 @@ fn lose_the_first(rt: &impl Abort, alloc: Global, receive_max: u64) -> Seen {
         let _learned = step(rt, &mut world, &outcome);
         read_all(rt, &mut world, Side::Server);
     }
-    Seen {
+    let seen = Seen {
         paid: world.trace().end(Side::Client).totals().paid,
         credited: world.trace().end(Side::Server).totals().credited,
         whole: usize::from(is_whole(world.trace(), Side::Client, 1, &bytes)),
         sends,
         ..Seen::NOTHING
-    }
+    };
+    drop(world);
+    seen
 }
 
 /// With room for what the lost answer carried: the Prepare, the same again, the close. Without it: the lost one, one that

@@ -101,14 +101,14 @@ fn send_again<A: Allocator + Copy>(rt: &impl Abort, player: &mut Player<A>) {
     read(rt, player, Side::Server, 1);
     for _ in 0..2 {
         let told = player.read(rt, Side::Server, 1);
-        assert!(rt; matches!(told, Told::Gave(Ok(Got::End))));
+        sure!(rt; matches!(told, Told::Gave(Ok(Got::End))));
     }
 }
 
 /// The text is read at an end.
 fn read<A: Allocator + Copy>(rt: &impl Abort, player: &mut Player<A>, side: Side, stream: u8) {
     match player.read(rt, side, stream) {
-        Told::Gave(Ok(Got::Bytes(bytes))) => assert!(rt; bytes.as_slice() == TEXT),
+        Told::Gave(Ok(Got::Bytes(bytes))) => sure!(rt; bytes.as_slice() == TEXT),
         _ => panic!(rt; "there are bytes"),
     }
 }
@@ -232,7 +232,7 @@ fn is_next(entry: &AnsweredAtEnd, sequence: Option<&u64>, amount: u64) -> bool {
 fn hops(rt: &impl Abort, alloc: Global, limits: &[u64]) -> Vec<Account> {
     let mut hops = Vec::new(alloc);
     for limit in limits {
-        assert!(rt; hops.push(account(*limit)).is_ok());
+        sure!(rt; hops.push(account(*limit)).is_ok());
     }
     hops
 }
@@ -245,9 +245,9 @@ fn check<A: Allocator + Copy>(
     met: bool,
     n: u64,
 ) {
-    assert!(rt; schedule.is_right(player.trace()), "at {n}");
-    assert!(rt; player.trace().refused() == (player.lacks() > 0), "at {n}");
-    assert!(rt; player.refusals() == u64::from(met), "at {n}");
+    sure!(rt; schedule.is_right(player.trace()), n);
+    sure!(rt; player.trace().refused() == (player.lacks() > 0), n);
+    sure!(rt; player.refusals() == u64::from(met), n);
 }
 
 /// The schedule, whose request `n` is refused: whether there was one.
@@ -266,7 +266,7 @@ fn meets(
             drop(player);
         }
         Err(fault) => {
-            assert!(rt; fault == Fault::NoMemory);
+            sure!(rt; fault == Fault::NoMemory);
             let made = Player::new(rt, heap, hops, config(rt));
             drop(made.expect(rt, "one request alone is refused"));
         }

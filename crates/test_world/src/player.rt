@@ -122,8 +122,8 @@ impl<A: Allocator + Copy> Player<A> {
         match self.world.step(event) {
             Ok(told) => told,
             Err(fault) => {
-                assert!(rt; fault == Fault::NoMemory);
-                assert!(rt; Standing::of(self.world.trace()) == before);
+                sure!(rt; fault == Fault::NoMemory);
+                sure!(rt; Standing::of(self.world.trace()) == before);
                 self.faults = self.faults.saturating_add(1);
                 self.again(rt, event)
             }
@@ -132,14 +132,14 @@ impl<A: Allocator + Copy> Player<A> {
 
     /// That a core call ran out of memory, and changed nothing: a Prepare that arrived was answered T00.
     fn note_lack(&mut self, rt: &impl Abort, event: &Event<'_>, before: Standing) {
-        assert!(rt; self.world.trace().refused());
+        sure!(rt; self.world.trace().refused());
         self.lacks = self.lacks.saturating_add(1);
         let mut want = before;
         if let Event::Arrive(link, way, _, _) = event {
             self.note_answer(rt, *link, *way);
             want = before.with_answer();
         }
-        assert!(rt; Standing::of(self.world.trace()) == want);
+        sure!(rt; Standing::of(self.world.trace()) == want);
     }
 
     /// The same, and again if the core call ran out of memory.
@@ -170,13 +170,13 @@ impl<A: Allocator + Copy> Player<A> {
 
     /// An event that is met by a call on a stream.
     pub(crate) fn call(&mut self, rt: &impl Abort, event: &Event<'_>) {
-        assert!(rt; matches!(self.take(rt, event), Told::Call(Ok(()))));
+        sure!(rt; matches!(self.take(rt, event), Told::Call(Ok(()))));
     }
 
     /// An end opens its first stream, of this number.
     pub(crate) fn open(&mut self, rt: &impl Abort, side: Side, stream: u8) {
         match self.take(rt, &Event::OpenStream(side)) {
-            Told::Opened(Ok(opened)) => assert!(rt; opened == stream),
+            Told::Opened(Ok(opened)) => sure!(rt; opened == stream),
             _ => panic!(rt; "it can be opened"),
         }
     }
@@ -190,7 +190,7 @@ impl<A: Allocator + Copy> Player<A> {
     /// An end's next Prepare is sent.
     pub(crate) fn send(&mut self, rt: &impl Abort, side: Side) {
         let event = Event::Send(side, IV, self.now);
-        assert!(rt; matches!(self.take(rt, &event), Told::Sent));
+        sure!(rt; matches!(self.take(rt, &event), Told::Sent));
     }
 
     /// A Prepare arrives at the far end of its link.
@@ -202,7 +202,7 @@ impl<A: Allocator + Copy> Player<A> {
     /// A Prepare arrives at an end, which fulfills it.
     pub(crate) fn arrive(&mut self, rt: &impl Abort, link: usize, way: Way, which: usize) {
         match self.come(rt, link, way, which) {
-            Told::Answered { reason, .. } => assert!(rt; reason == 0),
+            Told::Answered { reason, .. } => sure!(rt; reason == 0),
             _ => panic!(rt; "the end answers"),
         }
         self.note_answer(rt, link, way);
@@ -210,12 +210,12 @@ impl<A: Allocator + Copy> Player<A> {
 
     /// A Prepare arrives at a hop, which prepares it on the next link.
     pub(crate) fn pass(&mut self, rt: &impl Abort, link: usize, way: Way, which: usize) {
-        assert!(rt; matches!(self.come(rt, link, way, which), Told::Went));
+        sure!(rt; matches!(self.come(rt, link, way, which), Told::Went));
     }
 
     /// A Prepare arrives at a hop, which answers it.
     pub(crate) fn turn_back(&mut self, rt: &impl Abort, link: usize, way: Way, which: usize) {
-        assert!(rt; matches!(self.come(rt, link, way, which), Told::Replied));
+        sure!(rt; matches!(self.come(rt, link, way, which), Told::Replied));
         self.note_answer(rt, link, way);
     }
 
@@ -232,9 +232,9 @@ impl<A: Allocator + Copy> Player<A> {
     fn outcome(&mut self, rt: &impl Abort, link: usize, way: Way, event: &Event<'_>) {
         let told = self.take(rt, event);
         match self.before(link, way) {
-            None => assert!(rt; matches!(told, Told::Took(_))),
+            None => sure!(rt; matches!(told, Told::Took(_))),
             Some(before) => {
-                assert!(rt; matches!(told, Told::Replied));
+                sure!(rt; matches!(told, Told::Replied));
                 self.note_answer(rt, before, way);
             }
         }

@@ -123,9 +123,15 @@ fn seen_of<A: Allocator + Copy>(
     }
 }
 
-/// A run. It ends in this function alone, since the prover takes more than a minute for each that drops what it left.
+/// A run.
 fn play<A: Allocator + Copy>(world: World<A>, input: &[&[u8]], money: &[u64]) -> Seen {
-    seen_of(&world.quiet(input, money), input)
+    let ended = world.quiet(input, money);
+    let seen = seen_of(&ended, input);
+    match ended {
+        Ok(run) => drop(run),
+        Err((_, trace)) => drop(trace),
+    }
+    seen
 }
 
 /// How many Sends it takes to deliver `count` bytes over `hops` hops.

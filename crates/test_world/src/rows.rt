@@ -32,7 +32,7 @@ pub(crate) fn account(max_packet: u64) -> Account {
 fn played(rt: &impl Abort, world: World<Global>, events: &[Event<'_>]) -> Trace<Global> {
     match world.play(events) {
         Ok(trace) => {
-            assert!(rt; !trace.refused());
+            sure!(rt; !trace.refused());
             trace
         }
         Err(_) => panic!(rt; "there is memory"),
@@ -73,7 +73,7 @@ fn events(rt: &impl Abort, alloc: Global) -> Vec<Event<'static>> {
     let now = moment(rt);
     let mut events = Vec::new(alloc);
     for place in 0..10 {
-        assert!(rt; events.push(happens(place, now)).is_ok());
+        sure!(rt; events.push(happens(place, now)).is_ok());
     }
     events
 }
@@ -91,10 +91,10 @@ pub(crate) fn balances(trace: &Trace<Global>, place: usize) -> Option<(u64, u64)
 }
 
 fn check_exchange(rt: &impl Abort, trace: &Trace<Global>) {
-    assert!(rt; balances(trace, 0) == Some((100, 150)));
-    assert!(rt; balances(trace, 1) == Some((150, 75)));
-    assert!(rt; trace.end(Side::Client).totals().paid == 100);
-    assert!(rt; trace.end(Side::Server).totals().credited == 75);
+    sure!(rt; balances(trace, 0) == Some((100, 150)));
+    sure!(rt; balances(trace, 1) == Some((150, 75)));
+    sure!(rt; trace.end(Side::Client).totals().paid == 100);
+    sure!(rt; trace.end(Side::Server).totals().credited == 75);
 }
 
 #[test]
@@ -113,11 +113,11 @@ fn refusal(made: Result<World<Global>, Fault>) -> Option<u8> {
 #[test]
 fn no_chain_is_longer_than_eight_hops(rt: HostRuntime) {
     let hops = |count| refusal(World::new(rt.alloc(), count, config(&rt)));
-    assert!(rt; (hops(0), hops(MAX_HOPS), hops(MAX_HOPS + 1)) == (None, None, Some(78)));
+    sure!(&rt; (hops(0), hops(MAX_HOPS), hops(MAX_HOPS + 1)) == (None, None, Some(78)));
     let high = [Account {
         limit: 1 << 63,
         max_packet: 1,
     }];
     let made = World::with_hops(rt.alloc(), &high, config(&rt));
-    assert!(rt; refusal(made) == Some(78));
+    sure!(&rt; refusal(made) == Some(78));
 }

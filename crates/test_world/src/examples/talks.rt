@@ -69,4 +69,6 @@ fn two_ends_talk(rt: HostRuntime) {
     sure!(&rt; client.totals().paid == 10);
     sure!(&rt; server.totals().credited == 10);
     sure!(&rt; client.settled(1));
+    drop(client);
+    drop(server);
 }
