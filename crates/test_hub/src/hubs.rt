@@ -255,6 +255,7 @@ fn run_named<N: HubName<Global>, M: HubName<Global>, T: Trial<R>, R>(
         near, near_rings, near_blank, far, far_rings, far_blank,
     );
     trial.run(rt, alloc, &hubs, &mut seat);
+    drop(hubs);
 }
 
 /// Runs this with new hubs. `packet_limit` is the greatest amount of a Prepare of the client.

@@ -45,7 +45,10 @@ fn run_named<N: HubName<A>, A: Allocator + Copy, T: Refused<R>, R>(
     requires name { (blank.name ≡ N.name) × (blank.parts ≡ N.parts) × (blank.parts ≡ 64) }
 {
     let (hub, gauge, mut seat) = HubState::<N, A>::new(core, rings, blank);
-    trial.run(rt, heap, alloc, &Bench::new(hub), &gauge, &mut seat)
+    let hub = Bench::new(hub);
+    let was = trial.run(rt, heap, alloc, &hub, &gauge, &mut seat);
+    drop(hub);
+    was
 }
 
 /// Tries this with a new hub.
@@ -70,6 +73,7 @@ pub(crate) fn prepare(rt: &impl Abort, alloc: Global) -> Vec<u8> {
     match end.send([9; 12], moment(rt)) {
         Ok(Some((flight, bytes))) => {
             flight.abandon();
+            drop(end);
             bytes
         }
         Ok(None) | Err(_) => panic!(rt; "nothing goes"),

@@ -23,6 +23,7 @@ fn prepare(rt: &impl Abort, alloc: Global) -> Vec<u8> {
     match end.send([9; 12], moment(rt)) {
         Ok(Some((flight, bytes))) => {
             flight.abandon();
+            drop(end);
             bytes
         }
         Ok(None) | Err(_) => panic!(rt; "nothing goes"),
@@ -77,23 +78,54 @@ fn outcome<A: Allocator + Copy>(
     Ok((reason, amount))
 }
 
+/// The answer of a server to these bytes, which it opens itself, and whether it is then ready to read stream 1.
+fn answer_at_once(rt: &impl Abort, alloc: Global, bytes: &[u8]) -> (Received<Global>, bool) {
+    let (mut end, _) = end_and_keys(rt, alloc, "test.b", "test.a");
+    let answer = end.receive(bytes, moment(rt)).expect(rt, "memory");
+    let is_ready = end.is_ready(1);
+    drop(end);
+    (answer, is_ready)
+}
+
+/// The same of bytes that were opened before.
+fn answer_opened(rt: &impl Abort, alloc: Global, bytes: &[u8]) -> (Received<Global>, bool) {
+    let (mut end, keys) = end_and_keys(rt, alloc, "test.b", "test.a");
+    let bytes = Vec::from_slice(alloc, bytes).expect(rt, "memory");
+    let opened = Opened::of(alloc, &keys, bytes);
+    let answer = end.receive_opened(&opened, moment(rt)).expect(rt, "memory");
+    let is_ready = end.is_ready(1);
+    drop(end);
+    (answer, is_ready)
+}
+
 /// The answer of the two calls is that of the one.
 #[test]
 fn opened_bytes_are_answered_alike(rt: HostRuntime) {
     let rt = &rt;
-    let alloc = rt.alloc();
-    let bytes = prepare(rt, alloc);
-    let (mut one, _) = end_and_keys(rt, alloc, "test.b", "test.a");
-    let (mut two, keys) = end_and_keys(rt, alloc, "test.b", "test.a");
-    let again = Vec::from_slice(alloc, &bytes).expect(rt, "memory");
-    let opened = Opened::of(alloc, &keys, again);
-    let whole = one.receive(&bytes, moment(rt)).expect(rt, "memory");
-    let halves = two.receive_opened(&opened, moment(rt)).expect(rt, "memory");
+    let bytes = prepare(rt, rt.alloc());
+    let (whole, one) = answer_at_once(rt, rt.alloc(), &bytes);
+    let (halves, two) = answer_opened(rt, rt.alloc(), &bytes);
     sure!(rt; whole.reason == 0 && halves.reason == 0);
     sure!(rt; whole.amount == halves.amount);
     sure!(rt; whole.sequence == halves.sequence);
     sure!(rt; whole.bytes.as_slice() == halves.bytes.as_slice());
-    sure!(rt; one.is_ready(1) && two.is_ready(1));
+    sure!(rt; one && two);
+}
+
+/// What a server of this address answers if memory for the text was refused, and whether stream 1 was opened.
+fn answer_closed(
+    rt: &impl Abort,
+    heap: &Refusing<Global>,
+    own: &str,
+    bytes: &[u8],
+    now: Moment,
+) -> (Result<(u8, u64), EndError>, bool) {
+    let (mut end, keys) = end_and_keys(rt, heap, own, "test.a");
+    let closed = open(rt, heap, &keys, bytes, true);
+    let answer = outcome(end.receive_opened(&closed, now));
+    let has_stream = end.has_stream(1);
+    drop(end);
+    (answer, has_stream)
 }
 
 /// If memory for the text was refused, the payload cannot be judged. A Prepare that an earlier rule rejects is answered.
@@ -104,16 +136,11 @@ fn opening_is_refused_memory(rt: HostRuntime) {
     let heap = Refusing::new(rt.alloc());
     let now = moment(rt);
     let late = Moment::new(1_000_000).expect(rt, "a moment");
-    let (mut end, keys) = end_and_keys(rt, &heap, "test.b", "test.a");
-    let closed = open(rt, &heap, &keys, &bytes, true);
-    sure!(rt; outcome(end.receive_opened(&closed, now)) == Err(EndError::NoMemory));
-    sure!(rt; !end.has_stream(1));
-    let (mut other, keys) = end_and_keys(rt, &heap, "test.c", "test.a");
-    let closed = open(rt, &heap, &keys, &bytes, true);
-    sure!(rt; outcome(other.receive_opened(&closed, now)) == Ok((56, 0)));
-    let (mut third, keys) = end_and_keys(rt, &heap, "test.b", "test.a");
-    let closed = open(rt, &heap, &keys, &bytes, true);
-    sure!(rt; outcome(third.receive_opened(&closed, late)) == Ok((57, 0)));
+    let (answer, has_stream) = answer_closed(rt, &heap, "test.b", &bytes, now);
+    sure!(rt; answer == Err(EndError::NoMemory));
+    sure!(rt; !has_stream);
+    sure!(rt; answer_closed(rt, &heap, "test.c", &bytes, now).0 == Ok((56, 0)));
+    sure!(rt; answer_closed(rt, &heap, "test.b", &bytes, late).0 == Ok((57, 0)));
 }
 
 /// Makes the second call while its request number `n` is refused: whether it makes that request.
@@ -140,16 +167,23 @@ fn judge_while_refused<A: Allocator + Copy>(
     was
 }
 
+/// The same at a new end, by which these bytes are opened.
+fn open_and_judge(rt: &impl Abort, heap: &Refusing<Global>, bytes: &[u8], n: u64) -> bool {
+    heap.refuse_none();
+    let (mut end, keys) = end_and_keys(rt, heap, "test.b", "test.a");
+    let opened = open(rt, heap, &keys, bytes, false);
+    let was = judge_while_refused(rt, heap, &mut end, &opened, n);
+    drop(end);
+    was
+}
+
 #[test]
 fn judging_is_refused_memory(rt: HostRuntime) {
     let rt = &rt;
     let bytes = prepare(rt, rt.alloc());
     let heap = Refusing::new(rt.alloc());
     for n in 1..1_000_u64 {
-        heap.refuse_none();
-        let (mut end, keys) = end_and_keys(rt, &heap, "test.b", "test.a");
-        let opened = open(rt, &heap, &keys, &bytes, false);
-        if !judge_while_refused(rt, &heap, &mut end, &opened, n) {
+        if !open_and_judge(rt, &heap, &bytes, n) {
             sure!(rt; n > 2);
             return;
         }

@@ -78,6 +78,7 @@ fn run_named<
     );
     hubs.near.pause = Duration::from_secs(40);
     play(rt, alloc, &hubs, &mut seat, scene);
+    drop(hubs);
 }
 
 /// Tries this with new hubs, the first of which sends at most 10 units in a Prepare, and pauses for 40 seconds after a failure for
