@@ -18,7 +18,7 @@ import time
 from crates import BUILT, TOP, kit, read_crates, with_below, words
 
 PROGRAM = "ilpstream"
-# The processor's seconds that each crate takes from nothing, by the table in docs/GATE.md; those that are not here take OTHER.
+# The processor's seconds that each crate takes from nothing, four at a time, by the table in docs/GATE.md; those that are not here take OTHER.
 WEIGHTS = {
     "st_hop_books": 903, "ilpstream_net": 883, "ilpstream_ends": 701, "st_sender": 695, "ilpstream_words": 618, "st_world": 565,
     "st_hub": 495, "ilpstream_connector": 443, "ilpstream_settings": 428, "st_end": 415, "st_hop": 365, "st_receiver": 354,
