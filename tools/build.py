@@ -3,10 +3,11 @@
 
 The prover is called by itself, since `rt` works on one crate at a time if two have a crate below them in common. It writes
 a library, into crates/NAME/out/built, and the program of crates that are proved alone. Each crate is proved once those below it
-are. Of those that can begin, the one with the longest chain of crates above it begins first. A crate on the longest chain of all
-gets two jobs, if there are four processors, and any crate more while processors are idle. JOBS=N uses N processors. A crate
-that is not proved ends the build with its log. The program is for processors of this one's level; LEVEL=v2 and LEVEL=v3 ask for
-x86-64-v2 and x86-64-v3. `tools/build.py --plan N` prints what the weights below give for N processors."""
+are. Of those that can begin, the one with the longest chain of crates above it begins first. A crate gets a second job while
+processors are idle. With more than four processors it may get a third, and a crate on the longest chain of all always has two.
+JOBS=N uses N processors. A crate that is not proved ends the build with its log. The program is for processors of this one's
+level; LEVEL=v2 and LEVEL=v3 ask for x86-64-v2 and x86-64-v3. `tools/build.py --plan N` prints what the weights below give for N
+processors."""
 import os
 import shutil
 import signal
@@ -19,22 +20,25 @@ from crates import BUILT, TOP, kit, read_crates, with_below, words
 
 PROGRAM = "ilpstream"
 # The processor's seconds that each crate takes from nothing, four at a time, by the table in docs/GATE.md; those that are not here take OTHER.
+# ilpstream_output is not in that table: it is of one proof, next to three others.
 WEIGHTS = {
     "st_hop_books": 903, "ilpstream_net": 883, "ilpstream_ends": 701, "st_sender": 695, "ilpstream_words": 618, "st_world": 565,
     "st_hub": 495, "ilpstream_connector": 443, "ilpstream_settings": 428, "st_end": 415, "st_hop": 365, "st_receiver": 354,
     "ilpstream_frames": 353, "ilpstream_log": 347, "ilpstream_local": 343, "st_world_parts": 327, "st_hop_desk": 279,
     "ilpstream_serving": 273, "st_http": 267, "ilpstream_main": 262, "st_aes": 250, "ilpstream": 240, "ilpstream_ledger": 236,
     "st_frames": 200, "st_ilp": 197, "st_queues": 181, "st_unacked": 179, "st_reassembly": 135, "st_file": 115, "st_oer": 104,
-    "st_lanes": 90, "st_devices": 80, "st_keys": 64, "st_links": 57, "ilpstream_explain": 41, "st_streams": 33,
+    "st_lanes": 90, "st_devices": 80, "st_keys": 64, "st_links": 57, "ilpstream_explain": 41, "st_streams": 33, "ilpstream_output": 30,
 }
 OTHER = 100
 # Memory in bytes: what a check takes at most, and what each further job of it takes.
 CHECK, JOB = 3_500_000_000, 1_000_000_000
-MOST_JOBS = 3
-# A crate is urgent if the longest chain through it is this part of the longest of all. It has two jobs from this number of processors
-# on. (A second job does half as much as the first: the crates side by side make better use of the processors.)
+# A further job does a third as much as the first: with two a crate takes half as much of the processor again. So crates side by side
+# make better use of the processors, up to this number of them.
+FEW, FURTHER = 4, 0.33
+# The most jobs of a crate, with so few processors and with more.
+MOST_OF_FEW, MOST_JOBS = 2, 3
+# A crate is urgent if the longest chain through it is this part of the longest of all.
 URGENT = 0.93
-URGENT_FROM = 4
 # What a processor of level x86-64-v3 has in addition to those of level 2: with vectors of 32 bytes the cipher is twice as fast.
 LEVEL_3 = {"avx", "avx2", "bmi1", "bmi2", "f16c", "fma", "abm", "movbe"}
 
@@ -142,9 +146,11 @@ class Schedule:
         if not ready or self.running and (left < CHECK or len(self.running) == self.processors):
             return None
         idle = self.processors - sum(self.running.values())
-        least = 2 if self.processors >= URGENT_FROM and self.is_urgent(ready[0]) else 1
+        is_few = self.processors <= FEW
+        least = 2 if self.is_urgent(ready[0]) and not is_few else 1
+        most = MOST_OF_FEW if is_few else MOST_JOBS
         jobs = max(idle // len(ready), least)
-        self.running[ready[0]] = max(min(jobs, MOST_JOBS, 1 + max(left - CHECK, 0) // JOB), 1)
+        self.running[ready[0]] = max(min(jobs, most, 1 + max(left - CHECK, 0) // JOB), 1)
         return ready[0], self.running[ready[0]]
 
     def ended(self, crate):
@@ -157,19 +163,20 @@ class Schedule:
 
 
 def plan(crates, processors):
-    """The minutes that the weights give, if each further job of a crate counts as 0.45 of the first."""
-    schedule, now, left = Schedule(crates, processors, processors * (CHECK + JOB)), 0.0, {}
+    """The minutes by the clock and of the processor that the weights give."""
+    schedule, now, used, left = Schedule(crates, processors, processors * (CHECK + JOB)), 0.0, 0.0, {}
     while len(schedule.proved) < len(crates):
         while begun := schedule.next():
             left[begun[0]] = weight(begun[0])
         share = min(1, processors / sum(schedule.running.values()))
-        speeds = {it: share * (0.55 + 0.45 * jobs) for it, jobs in schedule.running.items()}
+        speeds = {it: share * (1 + FURTHER * (jobs - 1)) for it, jobs in schedule.running.items()}
         crate = min(left, key=lambda it: left[it] / speeds[it])
         took = left[crate] / speeds[crate]
         left = {it: seconds - took * speeds[it] for it, seconds in left.items() if it != crate}
+        used += took * min(processors, sum(schedule.running.values()))
         schedule.ended(crate)
         now += took
-    return now / 60
+    return now / 60, used / 60
 
 
 class Progress:
@@ -280,7 +287,7 @@ def main(arguments):
     asked_level()  # (a wrong one ends it here)
     crates = with_below(PROGRAM, read_crates())
     if arguments[:1] == ["--plan"]:
-        print(f"{plan(crates, int(arguments[1])):.0f} minutes")
+        print("{:.0f} minutes, {:.0f} of the processor".format(*plan(crates, int(arguments[1]))))
         return 0
     if is_fresh(crates):
         return 0
