@@ -19,7 +19,7 @@ use crate::error::HopError;
 use crate::refusal::Refusal;
 use crate::room::{Room, reject};
 use crate::route::{NextHop, Route, Routes};
-use crate::table::{MAX_SUM, routes_of};
+use crate::table::{MAX_SUM, TableParts, routes_of};
 use crate::ticket::{Open, Ticket};
 use crate::verdict::Verdict;
 use crate::waiting::{Waiting, is_waiting};
@@ -33,7 +33,6 @@ use std::marker::Model;
 const HOP_TIME: i64 = 1000;
 
 /// The state of a hop: the claims and dues of its accounts, and the Prepares that wait for their answer.
-#[derive(Drop)]
 pub struct HopState<A: Allocator + Copy> {
     pub(crate) own: String<A>,
     accounts: Vec<Account, A>,
@@ -53,6 +52,28 @@ pub struct HopState<A: Allocator + Copy> {
     alloc: A,
 }
 
+// It is written out, so that a caller does not prove again how each part is dropped.
+impl<A: Allocator + Copy> Drop for HopState<A> {
+    fn drop(self) {
+        let HopState {
+            own: _,
+            accounts: _,
+            routes: _,
+            claims: _,
+            dues: _,
+            waiting: _,
+            next: _,
+            held: _,
+            all_claims: _,
+            all_dues: _,
+            claimed: _,
+            due: _,
+            t00: _,
+            alloc: _,
+        } = self;
+    }
+}
+
 impl<A: Allocator + Copy> Model for HopState<A> {
     ghost use Rattle.std.specs.Prelude.{string_bytes};
     ghost use Rattle.std.specs.Coded.{codes};
@@ -63,9 +84,26 @@ impl<A: Allocator + Copy> Model for HopState<A> {
 
     ghost coded = { Prim.hlevel (codes) };
 
-    ghost view = { λ s. record { own = string_bytes s.own; accounts = s.accounts.items; routes = s.routes; claims = s.claims.items; dues = s.dues.items; tickets = tickets_of s.waiting.entries; next = s.next } };
+    ghost view = { λ s. record {
+      own = string_bytes s.own;
+      accounts = s.accounts.items;
+      routes = s.routes;
+      claims = s.claims.items;
+      dues = s.dues.items;
+      tickets = tickets_of s.waiting.entries;
+      next = s.next;
+    } };
 
-    ghost invariant = { λ s. IsSound (record { own = string_bytes s.own; accounts = s.accounts.items; routes = s.routes; claims = s.claims.items; dues = s.dues.items; tickets = tickets_of s.waiting.entries; next = s.next }) s.held.items s.all_claims s.all_dues s.claimed s.due s.waiting.entries s.t00.items };
+    ghost invariant = { λ s. IsSound (record {
+      own = string_bytes s.own;
+      accounts = s.accounts.items;
+      routes = s.routes;
+      claims = s.claims.items;
+      dues = s.dues.items;
+      tickets = tickets_of s.waiting.entries;
+      next = s.next;
+    })
+        s.held.items s.all_claims s.all_dues s.claimed s.due s.waiting.entries s.t00.items };
 }
 
 /// Whether an amount is above what the account's limit leaves.
@@ -106,20 +144,25 @@ impl<A: Allocator + Copy> HopState<A> {
         ensures refused { RefusesBadTable (is_table own.now accounts.now (map way_seen routes.now)) result }
     {
         let routes = routes_of(alloc, own, accounts, routes)?;
+        let table = TableParts::new(alloc, own, accounts, routes)?;
+        let claims = zeros(alloc, accounts.len())?;
+        let dues = zeros(alloc, accounts.len())?;
+        let held = zeros(alloc, accounts.len())?;
+        let (own, accounts, routes, t00) = table.take();
         Ok(HopState {
-            own: String::from_str(alloc, own)?,
-            accounts: Vec::from_slice(alloc, accounts)?,
+            own,
+            accounts,
             routes,
-            claims: zeros(alloc, accounts.len())?,
-            dues: zeros(alloc, accounts.len())?,
+            claims,
+            dues,
             waiting: BTreeMap::new(alloc),
             next: 0,
-            held: zeros(alloc, accounts.len())?,
+            held,
             all_claims: 0,
             all_dues: 0,
             claimed: 0,
             due: 0,
-            t00: reject(alloc, own, Refusal::InternalError)?,
+            t00,
             alloc,
         })
     }
@@ -152,16 +195,20 @@ impl<A: Allocator + Copy> HopState<A> {
         let Some(totals) = totals else {
             return Err(HopError::BadBooks);
         };
-        let t00 = reject(alloc, own, Refusal::InternalError)?;
+        let table = TableParts::new(alloc, own, accounts, routes)?;
+        let claims = Vec::from_slice(alloc, claims)?;
+        let dues = Vec::from_slice(alloc, dues)?;
+        let held = zeros(alloc, accounts.len())?;
+        let (own, accounts, routes, t00) = table.take();
         Ok(HopState {
-            own: String::from_str(alloc, own)?,
-            accounts: Vec::from_slice(alloc, accounts)?,
+            own,
+            accounts,
             routes,
-            claims: Vec::from_slice(alloc, claims)?,
-            dues: Vec::from_slice(alloc, dues)?,
+            claims,
+            dues,
             waiting: BTreeMap::new(alloc),
             next,
-            held: zeros(alloc, accounts.len())?,
+            held,
             all_claims: totals.claims,
             all_dues: totals.dues,
             claimed: totals.claims,
@@ -172,9 +219,7 @@ impl<A: Allocator + Copy> HopState<A> {
     }
 
     /// What an account owes the hop: the sum of the amounts of the fulfilled Prepares that arrived from it, in the
-    /// units of its link. Does not allocate.
-    ///
-    /// Fails with `NoAccount` if there is no account with this index.
+    /// units of its link. Does not allocate. Fails with `NoAccount` if there is no account with this index.
     pub fn claims(&self, account: usize) -> Result<u64, HopError>
         ensures { result ≡ (if nat_lt account (length self.now.accounts) then Ok (slice_index self.now.claims account) else Err HopError.NoAccount) }
     {
@@ -182,9 +227,7 @@ impl<A: Allocator + Copy> HopState<A> {
     }
 
     /// What the hop owes an account: the sum of the amounts of the fulfilled Prepares that were forwarded to it, in the
-    /// units of its link. Does not allocate.
-    ///
-    /// Fails with `NoAccount` if there is no account with this index.
+    /// units of its link. Does not allocate. Fails with `NoAccount` if there is no account with this index.
     pub fn dues(&self, account: usize) -> Result<u64, HopError>
         ensures { result ≡ (if nat_lt account (length self.now.accounts) then Ok (slice_index self.now.dues account) else Err HopError.NoAccount) }
     {
@@ -192,9 +235,7 @@ impl<A: Allocator + Copy> HopState<A> {
     }
 
     /// What is reserved against an account: the sum of the amounts of the Prepares from it that wait for their answer,
-    /// in the units of its link. Does not allocate.
-    ///
-    /// Fails with `NoAccount` if there is no account with this index.
+    /// in the units of its link. Does not allocate. Fails with `NoAccount` if there is no account with this index.
     pub fn held(&self, account: usize) -> Result<u64, HopError>
         ensures { result ≡ (if nat_lt account (length self.now.accounts) then Ok (held_of self.now account) else Err HopError.NoAccount) }
     {

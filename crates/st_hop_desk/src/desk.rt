@@ -30,7 +30,6 @@ pub const SHARES: u64 = 63;
 
 /// A hop and two ledgers, the value of one lock. `C` is the ledger of what all accounts owe the hop (claims), and `D`
 /// is the ledger of what the hop owes all accounts (dues), both in units.
-#[derive(Drop)]
 pub struct HopDesk<C: Ledger, D: Ledger, A: Allocator + Copy> {
     hop: HopState<A>,
     claims: Book<C>,
@@ -43,6 +42,21 @@ pub struct HopDesk<C: Ledger, D: Ledger, A: Allocator + Copy> {
     alloc: A,
 }
 
+// It is written out, so that a caller does not prove again how each part is dropped.
+impl<C: Ledger, D: Ledger, A: Allocator + Copy> Drop for HopDesk<C, D, A> {
+    fn drop(self) {
+        let HopDesk {
+            hop: _,
+            claims: _,
+            dues: _,
+            spare_claims: _,
+            spare_dues: _,
+            out: _,
+            alloc: _,
+        } = self;
+    }
+}
+
 impl<C: Ledger, D: Ledger, A: Allocator + Copy> Model for HopDesk<C, D, A> {
     ghost use Rattle.std.specs.Prelude.{◌≡◌, ◌+◌, ◌<◌, sum};
     ghost use Rattle.st_hop_desk.specs.Desk.{Desk};
@@ -51,7 +65,10 @@ impl<C: Ledger, D: Ledger, A: Allocator + Copy> Model for HopDesk<C, D, A> {
 
     ghost view = { λ d. record { hop = d.hop; out = d.out; kept_claims = d.spare_claims.amount; kept_dues = d.spare_dues.amount } };
 
-    ghost invariant = { λ d. (d.claims.total ≡ sum d.hop.claims) × (d.dues.total ≡ sum d.hop.dues) × (d.spare_claims.parts + d.out ≡ 64) × (d.spare_dues.parts + d.out ≡ 64) × (d.out < 64) × (C.parts ≡ 64) × (D.parts ≡ 64) };
+    ghost invariant = { λ d. (d.claims.total ≡ sum d.hop.claims)
+        × (d.dues.total ≡ sum d.hop.dues)
+        × (d.spare_claims.parts + d.out ≡ 64) × (d.spare_dues.parts + d.out ≡ 64)
+        × (d.out < 64) × (C.parts ≡ 64) × (D.parts ≡ 64) };
 }
 
 /// One thread's part of the two ledgers of a desk, in units: the claims and the dues that this thread booked. The value
