@@ -90,8 +90,7 @@ pub(crate) struct Roster {
     accepting: u64,
     /// Threads with a connection.
     busy: u64,
-    /// How many of these were to send to a neighbour for each account, by the place of the account that the request arrived
-    /// from.
+    /// How many of these were to send to a neighbour, by the place of the account from which the request arrived.
     sending: Vec<u64>,
     /// Requests whose connections are done, and those for which none is accepted any more since a fault ended all.
     spent: u64,
@@ -117,9 +116,29 @@ impl Model for Roster {
 
     ghost Value = { crew.Roster };
 
-    ghost view = { λ r. record { left = r.left; coming = r.coming; accepting = r.accepting; busy = r.busy; sending = r.sending.items; spent = r.spent; unserved = r.unserved; begun = r.begun; failed = r.failed; refused = r.is_refused; endless = r.is_endless; stopped = r.is_stopped; fault = r.fault } };
+    ghost view = { λ r. record {
+      left = r.left;
+      coming = r.coming;
+      accepting = r.accepting;
+      busy = r.busy;
+      sending = r.sending.items;
+      spent = r.spent;
+      unserved = r.unserved;
+      begun = r.begun;
+      failed = r.failed;
+      refused = r.is_refused;
+      endless = r.is_endless;
+      stopped = r.is_stopped;
+      fault = r.fault;
+    } };
 
-    ghost invariant = { λ r. (r.left + r.coming + r.accepting + r.busy + r.spent + r.unserved ≡ r.requests) × (r.coming + r.accepting + r.busy ≤ 1279) × (IsSome r.fault → r.left ≡ 0) × (IfSome r.fault crew.IsOfConnector) × (IsTrue r.is_stopped → r.left ≡ 0) × (r.is_stopped ≡ false → r.unserved ≡ 0) × (IsTrue r.is_endless → (r.requests ≡ 2 ^ 64 - 1) × (IsNone r.fault → r.is_stopped ≡ false → r.spent ≡ 0)) };
+    ghost invariant = { λ r. (r.left + r.coming + r.accepting + r.busy + r.spent + r.unserved ≡ r.requests)
+        × (r.coming + r.accepting + r.busy ≤ 1279)
+        × (IsSome r.fault → r.left ≡ 0)
+        × (IfSome r.fault crew.IsOfConnector)
+        × (IsTrue r.is_stopped → r.left ≡ 0)
+        × (r.is_stopped ≡ false → r.unserved ≡ 0)
+        × (IsTrue r.is_endless → (r.requests ≡ 2 ^ 64 - 1) × (IsNone r.fault → r.is_stopped ≡ false → r.spent ≡ 0)) };
 }
 
 impl Roster {
@@ -182,8 +201,7 @@ impl Roster {
         self.failed < workers && self.coming + self.accepting < workers - self.failed
     }
 
-    /// Claims a request for one more thread. False if no request is left, enough threads accept, or there is no room
-    /// for a thread.
+    /// Claims a request for one more thread. False if none is left, enough threads accept, or there is no room for it.
     pub(crate) fn hire(&mut self, workers: u8) -> bool
         ensures hired { MatchBool result (Hires self.old self.new) (self.new ≡ self.old) }
         ensures wanted { IsTrue result ↔ Wants workers self.old }

@@ -778,20 +778,6 @@ rows =
     } ∷
     record {
       number = 90;
-      home = codes "ilpstream_frames";
-      variant = codes "Fault::Input";
-      places = codes "frames" ∷
-          codes "local" ∷
-          codes "send" ∷
-          codes "connector" ∷
-          [];
-      cause = codes "In `frames` and `connector`: standard input cannot be read. In `send`, `connector` and `local" ∷
-          codes "--totals`: it is closed; nothing was opened or sent." ∷
-          [];
-      advice = codes "What to do: Look at the file after `<`." ∷ [];
-    } ∷
-    record {
-      number = 90;
       home = codes "ilpstream_local";
       variant = codes "LocalFault::Input";
       places = codes "local" ∷ [];
@@ -805,6 +791,20 @@ rows =
       places = codes "send" ∷ [];
       cause = codes "In `send`: the file of random bytes cannot be opened." ∷ [];
       advice = codes "What to do: Look at `--random`." ∷ [];
+    } ∷
+    record {
+      number = 90;
+      home = codes "ilpstream_output";
+      variant = codes "Fault::Input";
+      places = codes "frames" ∷
+          codes "local" ∷
+          codes "send" ∷
+          codes "connector" ∷
+          [];
+      cause = codes "In `frames` and `connector`: standard input cannot be read. In `send`, `connector` and `local" ∷
+          codes "--totals`: it is closed; nothing was opened or sent." ∷
+          [];
+      advice = codes "What to do: Look at the file after `<`." ∷ [];
     } ∷
     record {
       number = 90;
@@ -824,7 +824,15 @@ rows =
     } ∷
     record {
       number = 91;
-      home = codes "ilpstream_frames";
+      home = codes "ilpstream_local";
+      variant = codes "LocalFault::Output";
+      places = codes "local" ∷ [];
+      cause = codes "In `local`: the output cannot be written." ∷ [];
+      advice = codes "What to do: Make room." ∷ [];
+    } ∷
+    record {
+      number = 91;
+      home = codes "ilpstream_output";
       variant = codes "Fault::Output";
       places = codes "frames" ∷
           codes "local" ∷
@@ -840,14 +848,6 @@ rows =
           codes "at the end that could not be written to that of `--log`, and there was no other fault." ∷
           [];
       advice = codes "What to do: Make room. Totals and lines that were not written are lost; all else was done." ∷ [];
-    } ∷
-    record {
-      number = 91;
-      home = codes "ilpstream_local";
-      variant = codes "LocalFault::Output";
-      places = codes "local" ∷ [];
-      cause = codes "In `local`: the output cannot be written." ∷ [];
-      advice = codes "What to do: Make room." ∷ [];
     } ∷
     record {
       number = 91;
@@ -867,7 +867,15 @@ rows =
     } ∷
     record {
       number = 93;
-      home = codes "ilpstream_frames";
+      home = codes "ilpstream_local";
+      variant = codes "LocalFault::Turns";
+      places = codes "local" ∷ [];
+      cause = codes "In `local`: 2,147,483,647 reads, writes and flushes were used up." ∷ [];
+      advice = codes "What to do: Use an input that gives more bytes in a call." ∷ [];
+    } ∷
+    record {
+      number = 93;
+      home = codes "ilpstream_output";
       variant = codes "Fault::Turns";
       places = codes "frames" ∷
           codes "local" ∷
@@ -877,14 +885,6 @@ rows =
           [];
       cause = codes "2,147,483,647 reads, writes and flushes were used up." ∷ [];
       advice = codes "What to do: Give the input in smaller parts." ∷ [];
-    } ∷
-    record {
-      number = 93;
-      home = codes "ilpstream_local";
-      variant = codes "LocalFault::Turns";
-      places = codes "local" ∷ [];
-      cause = codes "In `local`: 2,147,483,647 reads, writes and flushes were used up." ∷ [];
-      advice = codes "What to do: Use an input that gives more bytes in a call." ∷ [];
     } ∷
     record {
       number = 93;
@@ -975,20 +975,6 @@ rows =
     } ∷
     record {
       number = 99;
-      home = codes "ilpstream_frames";
-      variant = codes "Fault::NoMemory";
-      places = codes "frames" ∷
-          codes "local" ∷
-          codes "send" ∷
-          codes "receive" ∷
-          codes "connector" ∷
-          codes "explain" ∷
-          [];
-      cause = codes "Out of memory for a line, a text, a table or the arguments." ∷ [];
-      advice = codes "What to do: Give the process more memory." ∷ [];
-    } ∷
-    record {
-      number = 99;
       home = codes "ilpstream_ledger";
       variant = codes "LedgerError::NoMemory";
       places = codes "connector" ∷
@@ -1007,6 +993,20 @@ rows =
       variant = codes "LocalFault::NoMemory";
       places = codes "local" ∷ [];
       cause = codes "In `local`: out of memory. Nothing was written." ∷ [];
+      advice = codes "What to do: Give the process more memory." ∷ [];
+    } ∷
+    record {
+      number = 99;
+      home = codes "ilpstream_output";
+      variant = codes "Fault::NoMemory";
+      places = codes "frames" ∷
+          codes "local" ∷
+          codes "send" ∷
+          codes "receive" ∷
+          codes "connector" ∷
+          codes "explain" ∷
+          [];
+      cause = codes "Out of memory for a line, a text, a table or the arguments." ∷ [];
       advice = codes "What to do: Give the process more memory." ∷ [];
     } ∷
     record {

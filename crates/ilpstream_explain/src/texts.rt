@@ -491,16 +491,16 @@ const FAULT_89: &str = "89  st_file FileError::Closed, in send
     What to do: Give the process more memory, and begin again.
 ";
 
-const FAULT_90: &str = "90  ilpstream_frames Fault::Input, in frames, local, send, connector
-    In `frames` and `connector`: standard input cannot be read. In `send`, `connector` and `local
-    --totals`: it is closed; nothing was opened or sent.
-    What to do: Look at the file after `<`.
-90  ilpstream_local LocalFault::Input, in local
+const FAULT_90: &str = "90  ilpstream_local LocalFault::Input, in local
     In `local`: standard input cannot be read.
     What to do: Look at the file after `<`.
 90  ilpstream_net RunError::NoRandom, in send
     In `send`: the file of random bytes cannot be opened.
     What to do: Look at `--random`.
+90  ilpstream_output Fault::Input, in frames, local, send, connector
+    In `frames` and `connector`: standard input cannot be read. In `send`, `connector` and `local
+    --totals`: it is closed; nothing was opened or sent.
+    What to do: Look at the file after `<`.
 90  ilpstream_serving TransferError::IvFault, in send
     In `send`: the file of random bytes cannot be read, or has no twelve bytes left.
     What to do: Use a file that does not end, such as `/dev/urandom`.
@@ -509,16 +509,15 @@ const FAULT_90: &str = "90  ilpstream_frames Fault::Input, in frames, local, sen
     What to do: Look at the file after `<`.
 ";
 
-const FAULT_91: &str =
-    "91  ilpstream_frames Fault::Output, in frames, local, send, receive, connector, ledger, explain
+const FAULT_91: &str = "91  ilpstream_local LocalFault::Output, in local
+    In `local`: the output cannot be written.
+    What to do: Make room.
+91  ilpstream_output Fault::Output, in frames, local, send, receive, connector, ledger, explain
     In `frames`, `ledger` and `explain`: the output cannot be written. In `receive`, `ledger` and
     `local --totals`: standard output is closed; nothing else was done. In `send`, `receive`,
     `connector` and `local`: the totals cannot be written to the file of `--totals`, or lines wait
     at the end that could not be written to that of `--log`, and there was no other fault.
     What to do: Make room. Totals and lines that were not written are lost; all else was done.
-91  ilpstream_local LocalFault::Output, in local
-    In `local`: the output cannot be written.
-    What to do: Make room.
 91  st_file FileError::WriteFault, in receive
     In `receive`: the output cannot be written, for example on a full disk or to a closed pipe.
     What to do: Make room. What is written is a beginning of the file. Begin again.
@@ -529,13 +528,12 @@ const FAULT_92: &str = "92  st_file FileError::Aborted, in receive
     What to do: Ask the sender. What is written is a beginning of the file.
 ";
 
-const FAULT_93: &str =
-    "93  ilpstream_frames Fault::Turns, in frames, local, connector, ledger, explain
-    2,147,483,647 reads, writes and flushes were used up.
-    What to do: Give the input in smaller parts.
-93  ilpstream_local LocalFault::Turns, in local
+const FAULT_93: &str = "93  ilpstream_local LocalFault::Turns, in local
     In `local`: 2,147,483,647 reads, writes and flushes were used up.
     What to do: Use an input that gives more bytes in a call.
+93  ilpstream_output Fault::Turns, in frames, local, connector, ledger, explain
+    2,147,483,647 reads, writes and flushes were used up.
+    What to do: Give the input in smaller parts.
 93  st_file FileError::Turns, in send, receive
     In `send` and `receive`: 2,147,483,647 calls of the input or the output were used up.
     What to do: Begin again, in smaller parts.
@@ -585,17 +583,16 @@ const FAULT_98: &str =
     What to do: Correct the option or the file. Nothing else was opened, and nothing was sent.
 ";
 
-const FAULT_99: &str =
-    "99  ilpstream_frames Fault::NoMemory, in frames, local, send, receive, connector, explain
-    Out of memory for a line, a text, a table or the arguments.
-    What to do: Give the process more memory.
-99  ilpstream_ledger LedgerError::NoMemory, in connector, ledger
+const FAULT_99: &str = "99  ilpstream_ledger LedgerError::NoMemory, in connector, ledger
     In `connector --ledger` and `ledger`: out of memory for what the books have. After `settle` or
     `adjust` the entry may be booked.
     What to do: Give the process more memory. After `settle` or `adjust` look with `ledger FILE`
     first, or give it again with the same reference.
 99  ilpstream_local LocalFault::NoMemory, in local
     In `local`: out of memory. Nothing was written.
+    What to do: Give the process more memory.
+99  ilpstream_output Fault::NoMemory, in frames, local, send, receive, connector, explain
+    Out of memory for a line, a text, a table or the arguments.
     What to do: Give the process more memory.
 99  ilpstream_serving TransferError::NoMemory, in send, connector
     In `send` and `connector`: out of memory for links, for threads or for the totals of accounts,

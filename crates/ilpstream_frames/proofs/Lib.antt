@@ -6,4 +6,3 @@ pub mod LinesSoFar
 pub mod HexDigits
 pub mod Newlines
 pub mod Progressing
-pub mod Spending

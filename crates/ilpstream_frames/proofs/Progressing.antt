@@ -7,11 +7,10 @@ use Rattle.std.specs.Io.KnownBytes.{Appends, Consumes, IsAtEnd, Keeps}
 use Rattle.std.proofs.KnownBytes.{Appends-trans, Appends-nil}
 use Rattle.std.proofs.lemmas.List.Splits.{slice_split_at, slice_split_none, length-slice_split}
 use Rattle.std.proofs.lemmas.List.{take-append-drop, take_all, drop_all, drop-set-lt}
-use Rattle.std.proofs.Math.Seq.{drop-cons}
+use Rattle.std.proofs.Math.Seq.{drop-cons, take-add, take-append_seam}
 use Rattle.std.proofs.lemmas.Grind.{common_steps}
 use Rattle.hex.specs.Hex.{decode_of}
 use Rattle.st_frames.specs.Reading.{packet_at}
-use Rattle.std.proofs.Math.Seq.{take-add, take-append_seam}
 use Rattle.ilpstream_frames.specs.declared.error.LineError.{LineError}
 use Rattle.ilpstream_frames.specs.declared.line.LineEnd.{LineEnd}
 use Rattle.ilpstream_frames.specs.Answers.{Answered, ended, skipped, taken, refused, no_memory, IsAnswer, after_line, packet_of_line, by_packet, prepare}
@@ -20,7 +19,8 @@ use Rattle.ilpstream_frames.specs.Inboxes.{Inboxes, opening, run_line, runs_from
 use Rattle.ilpstream_frames.specs.Texts.{line_text}
 use Rattle.ilpstream_frames.specs.LineSoFar.{StandsFor, no_line, text_of_line}
 use Rattle.ilpstream_frames.specs.Progress.{State, at_start, told, HasPacketEffect, HasEffect, AnswersLine, MayBegin, MayFollow, AnswersPiece, Covers, CoversLines}
-use Rattle.ilpstream_frames.specs.Endings.{BeginsAnswer, WritesAnswer, WritesPart}
+use Rattle.ilpstream_frames.specs.Endings.{BeginsAnswer, WritesAnswer}
+use Rattle.ilpstream_output.specs.Endings.{WritesPart}
 use Rattle.ilpstream_frames.proofs.LinesSoFar.{stands_empty}
 
 first_part : (x : List ℕ) (parts : List (List ℕ)) → 0 < length parts → lines_of_parts (x ∷ parts) ≡ strip_carriage_return x ∷ lines_of_parts parts

@@ -4,8 +4,6 @@ use Rattle.st_frames.specs.Errors as frames
 use Rattle.st_reassembly.specs.Errors as reassembly
 use Rattle.ilpstream_frames.specs.declared.error.LineError.{LineError}
 use Rattle.ilpstream_frames.specs.declared.error.LineError.TheVariants as line
-use Rattle.ilpstream_frames.specs.declared.error.Fault.{Fault}
-use Rattle.ilpstream_frames.specs.declared.error.Fault.TheVariants as fault
 
 abbrev pub number : LineError → ℕ
 number line.NotHex = 95
@@ -19,9 +17,3 @@ inner line.NotHex = None
 inner (line.Packet e) = frames.inner e
 inner line.StreamId = None
 inner (line.Inbox e) = reassembly.inner e
-
-abbrev pub fault_number : Fault → ℕ
-fault_number fault.Input = 90
-fault_number fault.Output = 91
-fault_number fault.Turns = 93
-fault_number fault.NoMemory = 99

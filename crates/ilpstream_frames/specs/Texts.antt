@@ -27,7 +27,3 @@ run_text bytes = if length bytes == 0 then codes "-" else encode_lower bytes
 -- what a stream prints: `stream 1 4 61626364` and a newline
 abbrev pub stream_text : ℕ → List ℕ → List ℕ
 stream_text stream bytes = codes "stream " ++ decimal stream ++ codes " " ++ decimal (length bytes) ++ codes " " ++ run_text bytes ++ 10 ∷ []
-
--- what a fault prints: `fault 90` and a newline
-abbrev pub fault_text : ℕ → List ℕ
-fault_text n = codes "fault " ++ decimal n ++ 10 ∷ []

@@ -8,25 +8,23 @@ ghost use Rattle.st_devices.specs.Faults.{count_after};
 ghost use Rattle.st_devices.specs.Tallies.{TakesTurns, device_of, tally_of};
 ghost use Rattle.st_frames.specs.Reading.{packet_at};
 ghost use Rattle.ilpstream_frames.specs.Answers.{by_packet, prepare};
-ghost use Rattle.ilpstream_frames.specs.Endings.{has_refusal, fault_of, reader_faults, writer_faults, BeginsAnswer, HasEnded, RunsFrames, Says, SpendsTurns, StaysFlushed, TellsFault, WritesAnswer, WritesPart};
+ghost use Rattle.ilpstream_frames.specs.Endings.{has_refusal, BeginsAnswer, RunsFrames, WritesAnswer};
+ghost use Rattle.ilpstream_output.specs.Endings.{fault_of, reader_faults, writer_faults, HasEnded, SpendsTurns, StaysFlushed, WritesPart};
 ghost use Rattle.ilpstream_frames.specs.Inboxes.{run_line, runs_text};
 ghost use Rattle.ilpstream_frames.specs.LineSoFar.{StandsFor, no_line, text_of_line};
 ghost use Rattle.ilpstream_frames.specs.Progress.{at_start, told, HasPacketEffect, HasEffect, AnswersLine, AnswersPiece, MayBegin, MayFollow, Covers, CoversLines, AfterTurn, SaysMore};
 
 use crate::digits::{decode, without_return};
-use crate::error::{Fault, LineError};
+use crate::error::LineError;
 use crate::line::{LineEnd, LineSoFar};
-use crate::output::put;
 use crate::streams::Streams;
-use crate::texts::{fault_line, refused_line, stream_line};
+use crate::texts::{refused_line, stream_line};
+use ilpstream_output::{Fault, TURNS, put, tell_fault};
 use memchr::memchr;
 use st_devices::{CountRead, CountWrite, ReadTurn, read_turn};
 use std::alloc::{AllocError, Allocator};
 use std::io::{Read, Write};
 use std::marker::Model;
-
-/// The most calls of its reader and its writer that a run makes, and then again of its writer for errors.
-pub const TURNS: u64 = 2_147_483_647;
 
 /// The number of bytes that one read asks for.
 const PIECE: usize = 65_536;
@@ -401,22 +399,6 @@ pub fn answer_frames<A: Allocator + Copy, R: Read, W: Write>(
         return Ok(Lines::SomeRefused);
     }
     Ok(Lines::AllTaken)
-}
-
-/// Writes a text, as far as the writer accepts it. A failure is ignored.
-pub fn say<E: Write>(errors: &mut CountWrite<E>, text: &str)
-    ensures { Says text.now E.contents errors.old errors.new }
-{
-    let mut turns = TURNS;
-    let _ = put(errors, text.as_bytes(), &mut turns);
-}
-
-/// Writes the line of a fault, as far as the writer accepts it. Returns the exit status of a fault, 1.
-pub fn tell_fault<E: Write>(errors: &mut CountWrite<E>, fault: Fault) -> u8
-    ensures { TellsFault fault E.contents errors.old errors.new result }
-{
-    say(errors, fault_line(fault));
-    1
 }
 
 /// Runs the command `frames` and returns its exit status: 0 if each line was accepted, and otherwise 1. A fault is

@@ -1,10 +1,9 @@
 //! The texts that the commands write.
 
 ghost use Rattle.std.specs.Prelude.{◌≡◌, IfOk, string_bytes};
-ghost use Rattle.ilpstream_frames.specs.Errors.{fault_number};
-ghost use Rattle.ilpstream_frames.specs.Texts.{fault_text, line_text, numbered_text, plain_text, stream_text, wrapped_text};
+ghost use Rattle.ilpstream_frames.specs.Texts.{line_text, numbered_text, plain_text, stream_text, wrapped_text};
 
-use crate::error::{Fault, LineError};
+use crate::error::LineError;
 use std::alloc::{AllocError, Allocator};
 
 /// The line that reports a refused line of input, by its index and the number of its error. Fails if memory is
@@ -76,16 +75,4 @@ pub fn stream_line<A: Allocator + Copy>(
     let digits = hex::encode(alloc, bytes)?;
     let text = format!(in alloc; "stream {stream} {length} {digits}\n")?;
     Ok(text)
-}
-
-/// The line that reports a fault.
-pub fn fault_line(fault: Fault) -> &'static str
-    ensures { result.now ≡ fault_text (fault_number fault) }
-{
-    match fault {
-        Fault::Input => "fault 90\n",
-        Fault::Output => "fault 91\n",
-        Fault::Turns => "fault 93\n",
-        Fault::NoMemory => "fault 99\n",
-    }
 }

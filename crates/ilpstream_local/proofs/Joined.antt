@@ -7,7 +7,7 @@ use Rattle.std.proofs.lemmas.Bool.{cases_lt}
 use Rattle.std.proofs.lemmas.List.{append-nil, take_all, take_min, take-append-le}
 use Rattle.std.proofs.Math.Seq.{take-append-add}
 use Rattle.ilpstream_local.specs.Parts.{joined}
-use Rattle.ilpstream_local.specs.Endings.{WritesPart}
+use Rattle.ilpstream_output.specs.Endings.{WritesPart}
 
 pub joined_next : (f : ℕ → List ℕ) (n : ℕ) → joined f (n + 1) ≡ joined f n ++ f n
 joined_next f n = ap (joined f) (add-one n)

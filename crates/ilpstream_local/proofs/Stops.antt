@@ -14,7 +14,8 @@ use Rattle.ilpstream_local.specs.Playing.{Carries, HasSent, Played, Plays, Stops
 use Rattle.ilpstream_local.specs.Schedule.{BreaksOff, FailedRound, LastRound, StopsSending, start}
 use Rattle.ilpstream_local.specs.Sends.{AreOf}
 use Rattle.ilpstream_local.specs.declared.sends.LocalSends.{LocalSends}
-use Rattle.ilpstream_local.specs.Endings.{ComesBefore, EndsWith, Explains, GoesOver, HasEnded, IsInput, IsRun, SpendsTurns, StaysFlushed, StopsCarry, StopsWrite, WritesPart, most_bytes, most_turns}
+use Rattle.ilpstream_local.specs.Endings.{ComesBefore, EndsWith, Explains, GoesOver, HasEnded, IsInput, IsRun, StopsCarry, StopsWrite, most_bytes}
+use Rattle.ilpstream_output.specs.Endings.{SpendsTurns, StaysFlushed, WritesPart, most_turns}
 
 -- ---- what was played
 

@@ -1,20 +1,19 @@
 -- How a run ended, and what was written by then.
-use Rattle.std.specs.Prelude.{◌≡◌, ◌⊎◌, ⊤, ℕ, ◌+◌, ◌-◌, ◌^◌, ◌≤◌, ◌<◌, true, List, ◌++◌, length, take, Option, Some, None, IfSome, Result, Ok, Err}
+use Rattle.std.specs.Prelude.{◌≡◌, ◌⊎◌, ⊤, ℕ, ◌+◌, ◌^◌, ◌≤◌, ◌<◌, List, ◌++◌, length, Option, Some, None, IfSome, Result, Ok, Err}
 use Rattle.std.specs.Io.KnownBytes.{Appends}
-use Rattle.st_devices.specs.Faults.{count_after}
-use Rattle.st_devices.specs.Tallies.{device_of, tally_of}
 use Rattle.st_devices.specs.declared.counted.Counting.{Counting}
 use Rattle.st_devices.specs.declared.tally.Tally.{Tally}
 use Rattle.ilpstream_local.specs.declared.fault.LocalFault.{LocalFault}
 use Rattle.ilpstream_local.specs.declared.fault.LocalFault.TheVariants as fault
 use Rattle.ilpstream_local.specs.Errors.{fault_number, reader_faults, writer_faults}
-use Rattle.ilpstream_local.specs.Texts.{fault_text}
+use Rattle.ilpstream_output.specs.Texts.{fault_text}
 use Rattle.ilpstream_settings.specs.declared.settings.LocalSettings.{LocalSettings}
 use Rattle.ilpstream_local.specs.Playing.{AreRead, Carries, HasFailed, Played, most_events}
 use Rattle.ilpstream_local.specs.Parts.{part_size}
 use Rattle.ilpstream_local.specs.Schedule.{BreaksOff, FailedRound, LastRound, Reach, Scheduled, start}
 use Rattle.ilpstream_local.specs.Sends.{AreOf}
 use Rattle.ilpstream_local.specs.declared.sends.LocalSends.{LocalSends}
+use Rattle.ilpstream_output.specs.Endings.{WritesPart, SpendsTurns, StaysFlushed, most_turns, Says}
 
 -- how many bytes an input has at most
 abbrev pub most_bytes : ℕ
@@ -33,29 +32,11 @@ StopsRead input left fault.Turns = left ≡ 0
 StopsRead input left fault.NoMemory = ⊤
 StopsRead input left e = ⊥
 
--- the first bytes of a text were written, all of them or fewer
-abbrev pub WritesPart : List ℕ → Option (List ℕ) → Option (List ℕ) → Type 0
-WritesPart text before now = (sent : ℕ) × Appends before now (take sent text)
-
 -- why a text was not written, with `left` I/O calls left
 abbrev pub StopsWrite : (left : ℕ) → LocalFault → Type 0
 StopsWrite left fault.Output = ⊤
 StopsWrite left fault.Turns = left ≡ 0
 StopsWrite left e = ⊥
-
--- each call of the reader, r before and s now, and of the writer, w before and v now, used up one of the calls that were left, and nothing
--- else did
-abbrev pub SpendsTurns : Tally → Tally → Tally → Tally → ℕ → ℕ → Type 0
-SpendsTurns r s w v before after =
-    (reads : ℕ) × (writes : ℕ) × (before ≡ after + reads + writes) × (s.calls ≡ count_after reads r.calls) × (v.calls ≡ count_after writes w.calls)
-
--- if nothing waited for a flush before, nothing does now
-abbrev pub StaysFlushed : Tally → Tally → Type 0
-StaysFlushed w v = w.flushed ≡ true → v.flushed ≡ true
-
--- how many calls of its reader and its writer a run makes at most, and then of its writer for errors
-abbrev pub most_turns : ℕ
-most_turns = 2 ^ 31 - 1
 
 -- a fault before anything is written
 abbrev pub ComesBefore : LocalFault → Type 0
@@ -72,13 +53,6 @@ pub record HasEnded (r s w v : Tally) (end : Option LocalFault) : Type 0 where
   pub used_up : end ≡ Some fault.Turns → left ≡ 0
   pub flushed : end ≡ None → StaysFlushed w v
   pub untouched : IfSome end (λ x. ComesBefore x → v ≡ w)
-
--- a text was written whole and flushed, to the writer that was e before and is f now; or the first bytes of it, all of them
--- or fewer, and the writer counted an error or was called as often as a run may
-abbrev pub Says : {E : Type 0} → List ℕ → (E → Option (List ℕ)) → Counting E → Counting E → Type 0
-Says text said e f = (Appends (said (device_of e)) (said (device_of f)) text × StaysFlushed (tally_of e) (tally_of f))
-    ⊎ (WritesPart text (said (device_of e)) (said (device_of f))
-    × (((tally_of f).faults ≡ count_after 1 (tally_of e).faults) ⊎ ((tally_of f).calls ≡ count_after most_turns (tally_of e).calls)))
 
 -- the status of a fault, of which the line was said
 abbrev pub TellsFault : {E : Type 0} → LocalFault → (E → Option (List ℕ)) → Counting E → Counting E → ℕ → Type 0

@@ -1,5 +1,4 @@
 pub mod Errors
-pub mod Texts
 pub mod Parts
 pub mod Playing
 pub mod Schedule

@@ -20,7 +20,6 @@ mod texts;
 pub use fault::LocalFault;
 pub use input::MAX_BYTES;
 pub use local::{play_local, run_local};
-pub use output::TURNS;
 pub use parts::part_size;
 pub use play::MAX_EVENTS;
 pub use sends::LocalSends;

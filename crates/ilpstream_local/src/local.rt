@@ -7,15 +7,17 @@ ghost use Rattle.ilpstream_local.specs.Errors.{fault_of, reader_faults, writer_f
 ghost use Rattle.ilpstream_local.specs.Parts.{joined, stream_at};
 ghost use Rattle.ilpstream_local.specs.Playing.{read_on, written_on};
 ghost use Rattle.ilpstream_local.specs.Schedule.{start};
-ghost use Rattle.ilpstream_local.specs.Endings.{ComesBefore, Explains, GoesOver, HasEnded, RunsLocal, SpendsTurns, StaysFlushed, StopsCarry, StopsWrite, WritesPart, most_bytes};
+ghost use Rattle.ilpstream_local.specs.Endings.{ComesBefore, Explains, GoesOver, HasEnded, RunsLocal, StopsCarry, StopsWrite, most_bytes};
+ghost use Rattle.ilpstream_output.specs.Endings.{SpendsTurns, StaysFlushed, WritesPart};
 
 use crate::fault::LocalFault;
 use crate::input::read_input;
-use crate::output::{TURNS, put, tell_fault};
+use crate::output::{put, tell_fault};
 use crate::parts::stream_at;
 use crate::play::Play;
 use crate::sends::{LocalSends, sends_of};
 use crate::streams::send_parts;
+use ilpstream_output::TURNS;
 use ilpstream_settings::LocalSettings;
 use st_devices::{CountRead, CountWrite};
 use std::alloc::Allocator;

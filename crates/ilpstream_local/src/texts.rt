@@ -2,7 +2,7 @@
 
 ghost use Rattle.std.specs.Prelude.{◌≡◌};
 ghost use Rattle.ilpstream_local.specs.Errors.{fault_number};
-ghost use Rattle.ilpstream_local.specs.Texts.{fault_text};
+ghost use Rattle.ilpstream_output.specs.Texts.{fault_text};
 
 use crate::fault::LocalFault;
 

@@ -11,9 +11,9 @@ use Rattle.st_hop_books.specs.declared.balance.Amounts.{Amounts}
 use Rattle.st_hop_books.specs.declared.balance.Entry.{Entry}
 use Rattle.st_links.specs.declared.side.BalanceSide.{BalanceSide}
 use Rattle.st_hop_books.specs.Standing.{Kept}
-use Rattle.ilpstream_frames.specs.Endings.{most_turns, writer_faults}
-use Rattle.ilpstream_frames.specs.declared.error.Fault.{Fault}
-use Rattle.ilpstream_frames.specs.declared.error.Fault.TheVariants as fault
+use Rattle.ilpstream_output.specs.Endings.{most_turns, writer_faults}
+use Rattle.ilpstream_output.specs.declared.error.Fault.{Fault}
+use Rattle.ilpstream_output.specs.declared.error.Fault.TheVariants as fault
 use Rattle.ilpstream_settings.specs.declared.ledger.Payment.{Payment}
 use Rattle.ilpstream_ledger.specs.declared.error.LedgerError.{LedgerError}
 use Rattle.ilpstream_ledger.specs.Names.{amounts_of}

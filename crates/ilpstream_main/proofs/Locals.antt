@@ -4,11 +4,12 @@ use Rattle.std.specs.Prelude.{◌⊎◌, IfSome, MatchOption, not, if◌then◌e
 use Rattle.std.specs.Option.{is_some}
 use Rattle.std.specs.Io.KnownBytes.{Appends}
 use Rattle.std.proofs.KnownBytes.{Appends-nil}
-use Rattle.ilpstream_frames.specs.declared.error.Fault.{Fault}
-use Rattle.ilpstream_frames.specs.declared.error.Fault.TheVariants.{NoMemory}
+use Rattle.ilpstream_output.specs.declared.error.Fault.{Fault}
+use Rattle.ilpstream_output.specs.declared.error.Fault.TheVariants.{NoMemory}
 use Rattle.ilpstream_local.specs.declared.fault.LocalFault.{LocalFault}
 use Rattle.ilpstream_local.specs.declared.sends.LocalSends.{LocalSends}
-use Rattle.ilpstream_local.specs.Endings.{ComesBefore, Explains, GoesOver, WritesPart, most_bytes}
+use Rattle.ilpstream_local.specs.Endings.{ComesBefore, Explains, GoesOver, most_bytes}
+use Rattle.ilpstream_output.specs.Endings.{WritesPart}
 use Rattle.ilpstream_local.specs.Sends.{is_past}
 use Rattle.ilpstream_settings.specs.declared.settings.LocalSettings.{LocalSettings}
 use Rattle.ilpstream_net.specs.declared.error.RunError.{RunError}

@@ -3,11 +3,12 @@ use Rattle.std.specs.Prelude.{◌≡◌, ◌⊎◌, ℕ, List, MatchOption, Opti
 use Rattle.clap.specs.Words.{Kinds}
 use Rattle.st_devices.specs.Tallies.{device_of, tally_of}
 use Rattle.st_devices.specs.declared.counted.Counting.{Counting}
-use Rattle.ilpstream_frames.specs.declared.error.Fault.{Fault}
-use Rattle.ilpstream_frames.specs.declared.error.Fault.TheVariants as fault
-use Rattle.ilpstream_frames.specs.Endings.{RunsFrames, Says, TellsFault}
-use Rattle.ilpstream_frames.specs.Errors.{fault_number}
-use Rattle.ilpstream_frames.specs.Texts.{fault_text}
+use Rattle.ilpstream_output.specs.declared.error.Fault.{Fault}
+use Rattle.ilpstream_output.specs.declared.error.Fault.TheVariants as fault
+use Rattle.ilpstream_frames.specs.Endings.{RunsFrames}
+use Rattle.ilpstream_output.specs.Endings.{Says, TellsFault}
+use Rattle.ilpstream_output.specs.Errors.{fault_number}
+use Rattle.ilpstream_output.specs.Texts.{fault_text}
 use Rattle.ilpstream_local.specs.Endings as local
 use Rattle.ilpstream_settings.specs.declared.settings.LocalSettings.{LocalSettings}
 use Rattle.ilpstream_words.specs.declared.request.Request.{Request}
@@ -19,7 +20,7 @@ use Rattle.ilpstream_net.specs.Errors.{number}
 use Rattle.ilpstream_main.specs.Ledger.{EndsLedger}
 use Rattle.ilpstream_main.specs.Local as ends
 use Rattle.ilpstream_main.specs.Local.{EndsLocal}
-use Rattle.ilpstream_main.specs.Explain.{Explains}
+use Rattle.ilpstream_explain.specs.Explain.{Explains}
 use Rattle.ilpstream_net.specs.Transfers.{EndsReceive, EndsSend}
 use Rattle.ilpstream_main.specs.Words.{MayRefuse, MayShow}
 use Rattle.ilpstream_net.specs.Table.{EndsConnector}

@@ -12,9 +12,9 @@ use Rattle.st_hop_books.specs.declared.balance.Kind.{Kind}
 use Rattle.st_hop_books.specs.declared.balance.Kind.TheVariants as kinds
 use Rattle.st_links.specs.declared.side.BalanceSide.{BalanceSide}
 use Rattle.st_hop_books.specs.Standing.{Kept}
-use Rattle.ilpstream_frames.specs.declared.error.Fault.{Fault}
-use Rattle.ilpstream_frames.specs.declared.error.Fault.TheVariants as fault
-use Rattle.ilpstream_frames.specs.Endings.{most_turns}
+use Rattle.ilpstream_output.specs.declared.error.Fault.{Fault}
+use Rattle.ilpstream_output.specs.declared.error.Fault.TheVariants as fault
+use Rattle.ilpstream_output.specs.Endings.{most_turns}
 use Rattle.ilpstream_settings.specs.declared.ledger.Kind.{Kind as Asked}
 use Rattle.ilpstream_settings.specs.declared.ledger.Kind.TheVariants as asked
 use Rattle.ilpstream_settings.specs.declared.ledger.Payment.{Payment}

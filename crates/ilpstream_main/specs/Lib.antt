@@ -2,7 +2,6 @@ pub mod Texts
 pub mod Words
 pub mod Settings
 pub mod Ledger
-pub mod Explain
 pub mod Streams
 pub mod Local
 pub mod Endings

@@ -1,10 +1,11 @@
 -- How `local` ends that writes its totals to a file.
 use Rattle.std.specs.Prelude.{◌≡◌, ℕ, Bool, true, false, List, [], ◌∷◌, ◌++◌, codes, decimal, Option, Some, None, IfSome, Result, Ok, Err, if◌then◌else◌}
 use Rattle.std.specs.Io.KnownBytes.{Appends}
-use Rattle.ilpstream_frames.specs.declared.error.Fault.{Fault}
+use Rattle.ilpstream_output.specs.declared.error.Fault.{Fault}
 use Rattle.ilpstream_local.specs.declared.fault.LocalFault.{LocalFault}
 use Rattle.ilpstream_local.specs.declared.sends.LocalSends.{LocalSends}
-use Rattle.ilpstream_local.specs.Endings.{ComesBefore, Explains, GoesOver, WritesPart}
+use Rattle.ilpstream_local.specs.Endings.{ComesBefore, Explains, GoesOver}
+use Rattle.ilpstream_output.specs.Endings.{WritesPart}
 use Rattle.ilpstream_local.specs.Sends.{is_past}
 use Rattle.ilpstream_settings.specs.declared.settings.LocalSettings.{LocalSettings}
 use Rattle.ilpstream_local.specs.Errors as local

@@ -3,9 +3,10 @@ use Rattle.std.specs.Prelude.{◌≡◌, ◌≢◌, ◌⊎◌, ℕ, ◌≤◌, B
 use Rattle.clap.specs.Words.{Text}
 use Rattle.st_devices.specs.Tallies.{device_of}
 use Rattle.st_devices.specs.declared.counted.Counting.{Counting}
-use Rattle.ilpstream_frames.specs.declared.error.Fault.{Fault}
-use Rattle.ilpstream_frames.specs.declared.error.Fault.TheVariants.{NoMemory}
-use Rattle.ilpstream_frames.specs.Endings.{RunsFrames, Says, TellsFault}
+use Rattle.ilpstream_output.specs.declared.error.Fault.{Fault}
+use Rattle.ilpstream_output.specs.declared.error.Fault.TheVariants.{NoMemory}
+use Rattle.ilpstream_frames.specs.Endings.{RunsFrames}
+use Rattle.ilpstream_output.specs.Endings.{Says, TellsFault}
 use Rattle.ilpstream_words.specs.declared.request.Request.{Request}
 use Rattle.ilpstream_words.specs.Words.{refusals}
 use Rattle.ilpstream_main.specs.Endings.{DoesUnless, LacksMemory, TellsAnswer, TellsBadOption}

@@ -1,7 +1,7 @@
 -- Which command needs which standard stream.
 use Rattle.std.specs.Prelude.{Bool, true, false, ◌||◌, Option, Some, None, is_some, if◌then◌else◌}
-use Rattle.ilpstream_frames.specs.declared.error.Fault.{Fault}
-use Rattle.ilpstream_frames.specs.declared.error.Fault.TheVariants as fault
+use Rattle.ilpstream_output.specs.declared.error.Fault.{Fault}
+use Rattle.ilpstream_output.specs.declared.error.Fault.TheVariants as fault
 use Rattle.ilpstream_words.specs.declared.request.Request.{Request}
 use Rattle.ilpstream_words.specs.declared.request.Request.TheVariants as request
 use Rattle.ilpstream_main.specs.declared.streams.Streams.{Streams}

@@ -5,10 +5,6 @@ use Rattle.std.specs.Prelude.{ℕ, List, codes}
 abbrev pub waits_text : List ℕ
 waits_text = codes "ilpstream: reads packets from the terminal, one a line in hexadecimal; Ctrl-D on a new line ends them\n"
 
--- what is written for a number that `explain` does not know
-abbrev pub no_fault_text : List ℕ
-no_fault_text = codes "error: no fault and no refusal has this number\n"
-
 -- what is written if an argument is not UTF-8
 abbrev pub not_utf8_text : List ℕ
 not_utf8_text = codes "error: invalid UTF-8 was detected in one or more arguments\n"

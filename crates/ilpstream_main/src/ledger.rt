@@ -3,17 +3,17 @@
 ghost use Rattle.std.specs.Prelude.{◌≡◌, Some, IfErr, IfOk, OnOk};
 ghost use Rattle.std.specs.Io.KnownBytes.{Appends};
 ghost use Rattle.st_devices.specs.Tallies.{device_of, tally_of};
-ghost use Rattle.ilpstream_frames.specs.declared.error.Fault.{Fault};
+ghost use Rattle.ilpstream_output.specs.declared.error.Fault.{Fault};
 ghost use Rattle.ilpstream_ledger.specs.Placing.{IsLate};
 ghost use Rattle.ilpstream_main.specs.Ledger.{EndsLedger, FailsToWrite, IsPrinted, IsPrintedAlone, IsPrintedOnce, PrintsFound};
 ghost use Rattle.ilpstream_main.specs.Ledger as specs;
 ghost use Rattle.ilpstream_net.specs.declared.error.RunError.TheVariants as run;
 
-use ilpstream_frames::{TURNS, put};
 use ilpstream_ledger::{
     LedgerError, OpensBooks, account_text, ledger_text, repeated_text, settle, settle_once,
 };
 use ilpstream_net::RunError;
+use ilpstream_output::{TURNS, put};
 use ilpstream_serving::RuntimeClock;
 use ilpstream_settings::{LedgerSettings, Payment};
 use sqlite_trees::store::Alter;

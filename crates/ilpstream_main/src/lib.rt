@@ -7,7 +7,6 @@
 #![tactic(auto)]
 
 mod error;
-mod explain;
 mod laws;
 mod ledger;
 mod local;

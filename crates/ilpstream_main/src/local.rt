@@ -3,7 +3,7 @@
 ghost use Rattle.std.specs.Prelude.{◌≡◌, ◌≤◌, IfOk, IfSome, MatchOption, OnOk, Result, string_bytes};
 ghost use Rattle.std.specs.Io.KnownBytes.{Appends};
 ghost use Rattle.st_devices.specs.Tallies.{device_of, tally_of};
-ghost use Rattle.ilpstream_frames.specs.declared.error.Fault.{Fault};
+ghost use Rattle.ilpstream_output.specs.declared.error.Fault.{Fault};
 ghost use Rattle.ilpstream_local.specs.Endings as ends;
 ghost use Rattle.ilpstream_main.specs.Endings.{EndsLocalOver, TellsLocal};
 ghost use Rattle.ilpstream_main.specs.Local as spec;
@@ -12,9 +12,9 @@ ghost use Rattle.ilpstream_main.specs.declared.error.LocalError.{LocalError};
 
 use crate::error::LocalError;
 use crate::tell::{tell_end, tell_number, tell_terminal};
-use ilpstream_frames::Fault;
-use ilpstream_local::{LocalSends, TURNS, play_local, run_local};
+use ilpstream_local::{LocalSends, play_local, run_local};
 use ilpstream_net::{Obstacle, RunError, Telling, place_for, tell_text};
+use ilpstream_output::{Fault, TURNS};
 use ilpstream_settings::{LocalRequest, LocalSettings};
 use st_devices::{CountRead, CountWrite};
 use std::alloc::{AllocError, Global};

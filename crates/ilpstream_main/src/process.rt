@@ -2,15 +2,15 @@
 
 ghost use Rattle.std.specs.Prelude.{◌≡◌, ◌≤◌, ◌⊎◌, map};
 ghost use Rattle.st_devices.specs.Tallies.{tally_of};
-ghost use Rattle.ilpstream_frames.specs.Endings.{HasEnded, Says, TellsFault};
+ghost use Rattle.ilpstream_output.specs.Endings.{HasEnded, Says, TellsFault};
 ghost use Rattle.ilpstream_main.specs.Process.{LacksWords, ObeysSome, TellsTerminal};
 ghost use Rattle.ilpstream_main.specs.Texts.{not_utf8_text};
 
 use crate::program::run;
 use crate::stdin::{Interruptible, STDIN};
 use crate::streams::{Held, Streams};
-use ilpstream_frames::{Fault, say, tell_fault};
 use ilpstream_ledger::OpensBooks;
+use ilpstream_output::{Fault, say, tell_fault};
 use ilpstream_words::{Request, read_words};
 use st_devices::{CountRead, CountWrite};
 use std::alloc::Global;

@@ -3,22 +3,23 @@
 ghost use Rattle.std.specs.Prelude.{◌≡◌, ◌≤◌, ◌⊎◌, map, None, Some};
 ghost use Rattle.st_devices.specs.Tallies.{tally_of};
 ghost use Rattle.clap.specs.Words.{HasKind, Kinds, kind_of};
-ghost use Rattle.ilpstream_frames.specs.Endings.{HasEnded, TellsFault};
+ghost use Rattle.ilpstream_output.specs.Endings.{HasEnded, TellsFault};
 ghost use Rattle.ilpstream_main.specs.Settings.{IsLawful};
 ghost use Rattle.ilpstream_main.specs.Endings.{Does, DoesUnless, LacksMemory, TellsAnswer, TellsNumber};
 ghost use Rattle.ilpstream_main.specs.Streams as closed;
 ghost use Rattle.ilpstream_main.specs.Process.{Obeys};
 
-use crate::explain::explain;
 use crate::ledger::ledger;
 use crate::local::local;
 use crate::streams::{Streams, missing};
 use crate::tell::{tell_end, tell_number, tell_terminal};
 use clap::Error;
 use clap::error::ErrorKind;
-use ilpstream_frames::{Fault, TURNS, put, run_frames, say, tell_fault};
+use ilpstream_explain::explain;
+use ilpstream_frames::run_frames;
 use ilpstream_ledger::OpensBooks;
 use ilpstream_net::{run_connector, run_receive, run_send};
+use ilpstream_output::{Fault, TURNS, put, say, tell_fault};
 use ilpstream_words::{Request, WordsError, broken_rule, read_words};
 use st_devices::{CountRead, CountWrite, Tally};
 use std::alloc::Global;

@@ -7,7 +7,7 @@
 ghost use Rattle.std.specs.Prelude.{◌≡◌};
 ghost use Rattle.ilpstream_main.specs.Streams as spec;
 
-use ilpstream_frames::Fault;
+use ilpstream_output::Fault;
 use ilpstream_words::Request;
 use libc::net::{POLLNVAL, poll};
 use libc::types::pollfd;

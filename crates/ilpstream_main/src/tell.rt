@@ -1,11 +1,11 @@
 //! How the end of a command is reported.
 
 ghost use Rattle.std.specs.Prelude.{◌≡◌, ◌≤◌, IfOk, string_bytes};
-ghost use Rattle.ilpstream_frames.specs.Texts.{fault_text};
+ghost use Rattle.ilpstream_output.specs.Texts.{fault_text};
 ghost use Rattle.ilpstream_main.specs.Endings.{TellsEnd, TellsNumber};
 
-use ilpstream_frames::{Fault, say, tell_fault};
 use ilpstream_net::{Obstacle, RunError, has_terminal, put_terminal, words_of};
+use ilpstream_output::{Fault, say, tell_fault};
 use st_devices::CountWrite;
 use std::alloc::{AllocError, Global};
 use std::io::Write;

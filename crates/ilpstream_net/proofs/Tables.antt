@@ -7,8 +7,8 @@ use Rattle.ilpstream_settings.specs.declared.line.AccountLine.{AccountLine}
 use Rattle.ilpstream_net.specs.declared.error.RunError.{RunError}
 use Rattle.ilpstream_net.specs.declared.error.RunError.TheVariants as run
 use Rattle.st_devices.specs.declared.tally.Tally.{Tally}
-use Rattle.ilpstream_frames.specs.declared.error.Fault.{Fault}
-use Rattle.ilpstream_frames.specs.declared.error.Fault.TheVariants as fault
+use Rattle.ilpstream_output.specs.declared.error.Fault.{Fault}
+use Rattle.ilpstream_output.specs.declared.error.Fault.TheVariants as fault
 use Rattle.ilpstream_net.specs.Input.{FailsToRead}
 use Rattle.ilpstream_net.specs.Restored.{IsOfBooks}
 use Rattle.ilpstream_net.specs.Table.{EndsBy, EndsByTable, GoesOn, HasTable, LacksTable, Lives, SaysTable, Serves, WhyNoHop, WhyNoTable, is_hop, later}

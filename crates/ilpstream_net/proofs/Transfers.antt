@@ -9,7 +9,7 @@ use Rattle.st_end.specs.Totals.{Totals}
 use Rattle.ilpstream_ends.specs.Keeping.{TellsTotals, file_stream}
 use Rattle.ilpstream_ends.specs.Outcomes.{ComesTo, no_totals}
 use Rattle.ilpstream_serving.specs.declared.error.TransferError.{TransferError}
-use Rattle.ilpstream_frames.specs.declared.error.Fault.{Fault}
+use Rattle.ilpstream_output.specs.declared.error.Fault.{Fault}
 use Rattle.ilpstream_settings.specs.declared.settings.ReceiveSettings.{ReceiveSettings}
 use Rattle.ilpstream_settings.specs.declared.settings.SendSettings.{SendSettings}
 use Rattle.ilpstream_net.specs.Control.{receiver_result}

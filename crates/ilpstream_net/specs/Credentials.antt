@@ -2,8 +2,8 @@
 use Rattle.std.specs.Prelude.{◌≡◌, ◌⊎◌, ℕ, true, ⊤, List, Option, IfSome, Result, Ok, Err, string_bytes}
 use Rattle.st_devices.specs.declared.tally.Tally.{Tally}
 use Rattle.st_http.specs.Texts.{is_field_text}
-use Rattle.ilpstream_frames.specs.declared.error.Fault.{Fault}
-use Rattle.ilpstream_frames.specs.declared.error.Fault.TheVariants as fault
+use Rattle.ilpstream_output.specs.declared.error.Fault.{Fault}
+use Rattle.ilpstream_output.specs.declared.error.Fault.TheVariants as fault
 use Rattle.ilpstream_settings.specs.Sources.{first_line}
 use Rattle.ilpstream_settings.specs.declared.source.Secret.{Secret}
 use Rattle.ilpstream_settings.specs.declared.source.Secret.TheVariants as secret

@@ -1,6 +1,6 @@
 -- The numbers that report why a command ended before its work was done.
 use Rattle.std.specs.Prelude.{ℕ}
-use Rattle.ilpstream_frames.specs.Errors.{fault_number}
+use Rattle.ilpstream_output.specs.Errors.{fault_number}
 use Rattle.ilpstream_serving.specs.Errors as transfer
 use Rattle.ilpstream_ledger.specs.Errors as ledger
 use Rattle.ilpstream_net.specs.declared.error.RunError.{RunError}

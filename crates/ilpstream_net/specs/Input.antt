@@ -3,9 +3,9 @@ use Rattle.std.specs.Prelude.{◌≡◌, ℕ, Bool, true, List, ◌++◌, Option
 use Rattle.std.specs.Io.KnownBytes.{Consumes, IsAtEnd}
 use Rattle.st_devices.specs.Faults.{count_after}
 use Rattle.st_devices.specs.declared.tally.Tally.{Tally}
-use Rattle.ilpstream_frames.specs.Endings.{most_turns}
-use Rattle.ilpstream_frames.specs.declared.error.Fault.{Fault}
-use Rattle.ilpstream_frames.specs.declared.error.Fault.TheVariants as fault
+use Rattle.ilpstream_output.specs.Endings.{most_turns}
+use Rattle.ilpstream_output.specs.declared.error.Fault.{Fault}
+use Rattle.ilpstream_output.specs.declared.error.Fault.TheVariants as fault
 
 -- further bytes were read, and appended to the old ones. If `ended`, the input is at its end. `before` and `after` are the
 -- bytes that the input still has, before the read and after it

@@ -8,7 +8,7 @@ use Rattle.st_hop.specs.Seen.{way_seen}
 use Rattle.st_hop.specs.Table.{new_hop}
 use Rattle.st_hop.specs.declared.route.Route.{Route}
 use Rattle.st_hop_books.specs.Standing.{Kept, LeavesOnly, sums_of}
-use Rattle.ilpstream_frames.specs.declared.error.Fault.TheVariants as fault
+use Rattle.ilpstream_output.specs.declared.error.Fault.TheVariants as fault
 use Rattle.ilpstream_ledger.specs.Names.{Names, claims_of, dues_of}
 use Rattle.ilpstream_ledger.specs.Placing.{first_of}
 use Rattle.ilpstream_ledger.specs.declared.error.LedgerError.TheVariants as ledger

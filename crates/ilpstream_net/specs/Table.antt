@@ -9,7 +9,7 @@ use Rattle.st_hop.specs.declared.route.Route.{Route}
 use Rattle.ilpstream_settings.specs.declared.line.AccountLine.{AccountLine}
 use Rattle.ilpstream_settings.specs.Table.{AreDistinct, HasBad, HasSameName, Says, names_of}
 use Rattle.st_devices.specs.declared.tally.Tally.{Tally}
-use Rattle.ilpstream_frames.specs.declared.error.Fault.TheVariants as fault
+use Rattle.ilpstream_output.specs.declared.error.Fault.TheVariants as fault
 use Rattle.ilpstream_net.specs.Input.{FailsToRead}
 use Rattle.ilpstream_net.specs.declared.error.RunError.{RunError}
 use Rattle.ilpstream_net.specs.declared.error.RunError.TheVariants as run

@@ -1,6 +1,6 @@
 -- The totals that a command writes to a file, and how it ends then.
 use Rattle.std.specs.Prelude.{◌≡◌, ℕ, suc, List, [], ◌∷◌, ◌++◌, nat_eq, if◌then◌else◌, codes, decimal, Option, Some, None, Result, Ok, Err, ⊤}
-use Rattle.ilpstream_frames.specs.declared.error.Fault.{Fault}
+use Rattle.ilpstream_output.specs.declared.error.Fault.{Fault}
 use Rattle.st_end.specs.Totals.{Totals}
 use Rattle.ilpstream_connector.specs.declared.accounts.AccountTotals.{AccountTotals}
 use Rattle.ilpstream_connector.specs.declared.counts.AccountCounts.{AccountCounts}

@@ -19,9 +19,9 @@ use Rattle.ilpstream_serving.specs.declared.error.TransferError.TheVariants as t
 use Rattle.st_http.specs.declared.neighbour.Neighbour.{Neighbour}
 use Rattle.ilpstream_serving.specs.declared.terms.ReceiveTerms.{ReceiveTerms}
 use Rattle.ilpstream_serving.specs.declared.terms.SendTerms.{SendTerms}
-use Rattle.ilpstream_frames.specs.Endings.{most_turns}
-use Rattle.ilpstream_frames.specs.declared.error.Fault.{Fault}
-use Rattle.ilpstream_frames.specs.declared.error.Fault.TheVariants as fault
+use Rattle.ilpstream_output.specs.Endings.{most_turns}
+use Rattle.ilpstream_output.specs.declared.error.Fault.{Fault}
+use Rattle.ilpstream_output.specs.declared.error.Fault.TheVariants as fault
 use Rattle.ilpstream_settings.specs.declared.settings.ReceiveSettings.{ReceiveSettings}
 use Rattle.ilpstream_settings.specs.declared.settings.SendSettings.{SendSettings}
 use Rattle.ilpstream_net.specs.Control.{receiver_result}

@@ -5,7 +5,7 @@ ghost use Rattle.st_devices.specs.Tallies.{device_of};
 ghost use Rattle.ilpstream_net.specs.Totals.{IsEmptyBeside, Replaced, TakesPlace};
 
 use crate::obstacle::{Cause, cause_of};
-use ilpstream_frames::{Fault, TURNS, put};
+use ilpstream_output::{Fault, TURNS, put};
 use libc::getpid;
 use st_devices::CountWrite;
 use std::alloc::Global;

@@ -5,7 +5,7 @@ ghost use Rattle.ilpstream_net.specs.Table.{WhyNotCarried};
 
 use crate::error::RunError;
 use ilpstream_connector::AccountTotals;
-use ilpstream_frames::Fault;
+use ilpstream_output::Fault;
 use ilpstream_settings::Table;
 use st_hop::HopState;
 use std::alloc::{AllocError, Global};

@@ -3,7 +3,7 @@
 ghost use Rattle.std.specs.Prelude.{◌≡◌, true, IfErr, IfOk, string_bytes};
 ghost use Rattle.st_devices.specs.Tallies.{device_of, tally_of};
 ghost use Rattle.st_http.specs.Texts as texts;
-ghost use Rattle.ilpstream_frames.specs.declared.error.Fault.TheVariants.{NoMemory};
+ghost use Rattle.ilpstream_output.specs.declared.error.Fault.TheVariants.{NoMemory};
 ghost use Rattle.ilpstream_settings.specs.Sources.{IsSecret, IsToken};
 ghost use Rattle.ilpstream_net.specs.Credentials.{AreOf, ComesOfLine, HasSecret, HasToken, IsLawfulToken, WhyNotOpened};
 ghost use Rattle.ilpstream_net.specs.Credentials as spec;
@@ -12,7 +12,7 @@ ghost use Rattle.ilpstream_net.specs.declared.error.RunError.TheVariants.{Fault 
 use crate::error::RunError;
 use crate::input::read_whole;
 use crate::obstacle::{Cause, Obstacle, Step};
-use ilpstream_frames::Fault;
+use ilpstream_output::Fault;
 use ilpstream_settings::{Secret, Token, first_secret, first_token};
 use st_devices::CountRead;
 use std::alloc::Global;

@@ -1,7 +1,6 @@
 //! How the commands `send` and `receive` begin and end.
 
 ghost use Rattle.std.specs.Prelude.{◌≡◌, ◌≢◌, Err, IfErr, IfOk, IsNone, IsSome};
-ghost use Rattle.st_end.specs.Seen.{totals_seen};
 ghost use Rattle.ilpstream_net.specs.Credentials.{AreOf, IsLawfulToken, WhyNotOpened};
 ghost use Rattle.ilpstream_net.specs.Transfers.{EndsTold};
 ghost use Rattle.ilpstream_net.specs.declared.error.RunError.TheVariants.{BadOption};
@@ -92,7 +91,7 @@ pub(crate) fn end<N: Clock, W: Write>(
     ended: Result<(), RunError>,
 ) -> Result<(), RunError>
     ensures bad { ended ≢ Err BadOption → result ≢ Err BadOption }
-    ensures told { EndsTold W.contents begun.old.totals begun.new.totals (totals_seen totals.now) ended result }
+    ensures told { EndsTold W.contents begun.old.totals begun.new.totals totals.now ended result }
 {
     let log = begun.journal.as_ref();
     tell_end(rt, log, totals);

@@ -3,8 +3,8 @@
 ghost use Rattle.std.specs.Prelude.{◌≡◌};
 ghost use Rattle.ilpstream_net.specs.Errors as errors;
 
-use ilpstream_frames::Fault;
 use ilpstream_ledger::LedgerError;
+use ilpstream_output::Fault;
 use ilpstream_serving::TransferError;
 use std::alloc::AllocError;
 use thiserror::Error;
@@ -58,7 +58,7 @@ impl RunError {
 }
 
 ghost use Rattle.ilpstream_net.specs.declared.error.RunError.TheVariants.{Fault as IsFault, Ledger, Transfer};
-ghost use Rattle.ilpstream_frames.specs.declared.error.Fault.TheVariants.{NoMemory};
+ghost use Rattle.ilpstream_output.specs.declared.error.Fault.TheVariants.{NoMemory};
 
 impl From<Fault> for RunError {
     ghost from_gives = { λ x e. e ≡ IsFault x };

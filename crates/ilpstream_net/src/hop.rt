@@ -11,8 +11,8 @@ ghost use Rattle.ilpstream_net.specs.Ways.{these, way_to};
 ghost use Rattle.ilpstream_net.specs.declared.error.RunError.TheVariants.{BadTable, NoHop};
 
 use crate::error::RunError;
-use ilpstream_frames::Fault;
 use ilpstream_ledger::{Life, added_names_owe_nothing, place};
+use ilpstream_output::Fault;
 use ilpstream_serving::Neighbour;
 use ilpstream_settings::{AccountLine, Table};
 use sqlite_trees::store::Alter;

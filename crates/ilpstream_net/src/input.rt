@@ -2,12 +2,12 @@
 
 ghost use Rattle.std.specs.Prelude.{◌≡◌, ◌⊎◌, IfErr, IfOk, IfSome};
 ghost use Rattle.st_devices.specs.Tallies.{device_of, tally_of};
-ghost use Rattle.ilpstream_frames.specs.Endings.{fault_of, reader_faults};
+ghost use Rattle.ilpstream_output.specs.Endings.{fault_of, reader_faults};
 ghost use Rattle.st_devices.specs.Faults.{count_after};
-ghost use Rattle.ilpstream_frames.specs.declared.error.Fault.TheVariants.{Input, NoMemory};
+ghost use Rattle.ilpstream_output.specs.declared.error.Fault.TheVariants.{Input, NoMemory};
 ghost use Rattle.ilpstream_net.specs.Input.{FailsToRead, ReadsOn};
 
-use ilpstream_frames::{Fault, TURNS};
+use ilpstream_output::{Fault, TURNS};
 use st_devices::{CountRead, ReadTurn, read_turn};
 use std::alloc::Global;
 use std::io::Read;

@@ -1,7 +1,7 @@
 //! The log of a command.
 
 ghost use Rattle.std.specs.Prelude.{◌≡◌, ◌⊎◌, IfErr, IfOk, IsNone, IsSome, Result};
-ghost use Rattle.ilpstream_frames.specs.declared.error.Fault.TheVariants.{NoMemory};
+ghost use Rattle.ilpstream_output.specs.declared.error.Fault.TheVariants.{NoMemory};
 ghost use Rattle.ilpstream_net.specs.Totals as spec;
 ghost use Rattle.ilpstream_net.specs.declared.error.RunError.TheVariants.{BadOption, Fault as IsFault};
 
@@ -9,8 +9,8 @@ use crate::error::RunError;
 use crate::obstacle::{Cause, Obstacle, Step, cause_of, words_of};
 use crate::totals::ended_with;
 use ilpstream_connector::{AccountTotals, Counts};
-use ilpstream_frames::Fault;
 use ilpstream_log::{AccountCounts, Event};
+use ilpstream_output::Fault;
 use ilpstream_serving::{LogFile, RuntimeClock, log_anew, log_in};
 use ilpstream_settings::{TableFault, WholeFault, table_fault, whole_fault};
 use st_ilp::Moment;

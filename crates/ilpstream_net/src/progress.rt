@@ -3,7 +3,6 @@
 ghost use Rattle.std.specs.Prelude.{◌≡◌};
 ghost use Rattle.std.specs.Duration.{as_nanos};
 ghost use Rattle.std.specs.Time.{instant_nanos};
-ghost use Rattle.st_end.specs.Seen.{totals_seen};
 ghost use Rattle.ilpstream_net.specs.Progress as spec;
 
 use crate::log::{Log, tell_minute};
@@ -91,7 +90,7 @@ pub(crate) struct Teller<'a, N> {
 
 /// The bytes of an end with these totals.
 fn bytes_of(side: Side, totals: &Totals) -> u64
-    ensures { result ≡ spec.bytes_of side (totals_seen totals.now) }
+    ensures { result ≡ spec.bytes_of side totals.now }
 {
     match side {
         Side::Sends(_) => totals.accepted,
@@ -122,7 +121,7 @@ fn progress_of(
     waits: Option<Blocked>,
     last: Option<Brief>,
 ) -> Progress
-    ensures { result ≡ spec.progress_of side (totals_seen totals.now) from millis waits last }
+    ensures { result ≡ spec.progress_of side totals.now from millis waits last }
 {
     let millis = millis.saturating_sub(from.millis);
     match side {

@@ -2,7 +2,6 @@
 
 ghost use Rattle.std.specs.Prelude.{◌≡◌, ◌≢◌, Err, IfOk, IsNone, IsOkUnless, IsSome};
 ghost use Rattle.st_devices.specs.Tallies.{device_of};
-ghost use Rattle.st_end.specs.Seen.{totals_seen};
 ghost use Rattle.st_end.specs.declared.error.EndError.TheVariants as refusals;
 ghost use Rattle.ilpstream_serving.specs.declared.error.TransferError.TheVariants as transfer;
 ghost use Rattle.ilpstream_net.specs.Control as spec;
@@ -22,8 +21,8 @@ use crate::progress::{Side, Teller};
 use crate::send::widest;
 use crate::totals::nothing_yet;
 use ilpstream_ends::{ReceivingEnd, receive_on, server_end};
-use ilpstream_frames::TURNS;
 use ilpstream_log::Start;
+use ilpstream_output::TURNS;
 use ilpstream_serving::{ReceiveTerms, RuntimeClock, TransferError, Watch};
 use ilpstream_settings::ReceiveSettings;
 use st_devices::CountWrite;
@@ -118,7 +117,7 @@ fn transfer<
     requires control { IsSome settings.now.control → IsSome pipe }
     ensures bad { result ≢ Err BadOption }
     ensures made { TransfersIn settings.now credentials.now.secret (W.contents (device_of writer.old)) (W.contents (device_of writer.new))
-        (totals_seen totals.old) (totals_seen totals.new) result }
+        totals.old totals.new result }
 {
     let listener = listener_of(rt, alloc, settings, log, obstacle)?;
     let end = end_of(alloc, settings, credentials.secret)?;

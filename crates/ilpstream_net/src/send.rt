@@ -2,11 +2,10 @@
 
 ghost use Rattle.std.specs.Prelude.{◌≡◌, ◌≢◌, ◌⊎◌, Err, IfErr, IfOk, IsOkUnless, IsSome};
 ghost use Rattle.st_hub.specs.Hub.{IsNew};
-ghost use Rattle.st_end.specs.Seen.{totals_seen};
 ghost use Rattle.st_end.specs.declared.error.EndError.TheVariants as refusals;
 ghost use Rattle.ilpstream_ends.specs.Outcomes.{no_totals};
 ghost use Rattle.ilpstream_serving.specs.declared.error.TransferError.TheVariants as transfer;
-ghost use Rattle.ilpstream_frames.specs.declared.error.Fault.TheVariants.{NoMemory};
+ghost use Rattle.ilpstream_output.specs.declared.error.Fault.TheVariants.{NoMemory};
 ghost use Rattle.ilpstream_net.specs.Credentials.{AreOf};
 ghost use Rattle.ilpstream_net.specs.Settings.{IsSender};
 ghost use Rattle.ilpstream_net.specs.Transfers.{AreTermsOut, EndsSend, IsNeighbourOf, SendsBy, TransfersOut, sender_end, sender_result, widest as widest_config};
@@ -20,8 +19,8 @@ use crate::obstacle::{Obstacle, Step};
 use crate::progress::{Side, Teller, has_terminal, input_length};
 use crate::totals::nothing_yet;
 use ilpstream_ends::{client_end, send_on};
-use ilpstream_frames::{Fault, TURNS};
 use ilpstream_log::Start;
+use ilpstream_output::{Fault, TURNS};
 use ilpstream_serving::{Neighbour, SendTerms, TransferError};
 use ilpstream_settings::SendSettings;
 use st_devices::CountRead;
@@ -182,7 +181,7 @@ fn transfer<
     requires settings { IsSender settings.now }
     requires credentials { AreOf settings.now.token settings.now.secret credentials.now }
     ensures bad { result ≢ Err BadOption }
-    ensures made { TransfersOut settings.now credentials.now.secret (totals_seen totals.old) (totals_seen totals.new) result }
+    ensures made { TransfersOut settings.now credentials.now.secret totals.old totals.new result }
 {
     let random = random_of(rt, alloc, settings, obstacle)?;
     let input = buffered(alloc, INPUT, reader)?;

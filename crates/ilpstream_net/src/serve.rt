@@ -2,7 +2,7 @@
 
 ghost use Rattle.std.specs.Prelude.{◌≡◌, true, IfErr, IfOk, IsNone, IsSome};
 ghost use Rattle.std.specs.Duration.{as_nanos};
-ghost use Rattle.ilpstream_frames.specs.Endings.{most_turns};
+ghost use Rattle.ilpstream_output.specs.Endings.{most_turns};
 ghost use Rattle.ilpstream_net.specs.Restored.{IsOfBooks};
 ghost use Rattle.ilpstream_net.specs.Table.{Serves, is_hop};
 ghost use Rattle.ilpstream_net.specs.declared.error.RunError.TheVariants.{NoListener};
@@ -16,9 +16,9 @@ use crate::obstacle::Obstacle;
 use crate::reports::Reports;
 use crate::totals::{ConnectorTotals, places};
 use ilpstream_connector::{ConnectorEnded, Counts, MOST_THREADS, Minutes, connector_on};
-use ilpstream_frames::{Fault, TURNS};
 use ilpstream_ledger::{LedgerError, OpensBooks, Placed, Watched, Watcher};
 use ilpstream_log::Event;
+use ilpstream_output::{Fault, TURNS};
 use ilpstream_serving::{ConnectTerms, Neighbour};
 use ilpstream_settings::{ConnectorSettings, Table};
 use sqlite_trees::store::Alter;

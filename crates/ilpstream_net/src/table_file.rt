@@ -8,7 +8,7 @@ use crate::error::RunError;
 use crate::hop::hop_of;
 use crate::input::read_whole;
 use crate::obstacle::{Cause, cause_of};
-use ilpstream_frames::Fault;
+use ilpstream_output::Fault;
 use ilpstream_settings::{Table, TableError, read_table};
 use st_devices::CountRead;
 use st_oer::utf8;

@@ -3,19 +3,18 @@
 ghost use Rattle.std.specs.Prelude.{◌≡◌, ◌⊎◌, IfErr, IfOk, IsNone, IsSome, OnErr, OnOk, Result, string_bytes, vec_len};
 ghost use Rattle.std.specs.Io.KnownBytes.{Appends};
 ghost use Rattle.st_devices.specs.Tallies.{device_of};
-ghost use Rattle.st_end.specs.Seen.{totals_seen};
 ghost use Rattle.ilpstream_net.specs.Totals as spec;
 ghost use Rattle.ilpstream_net.specs.Transfers.{IsToldIn};
 ghost use Rattle.ilpstream_ends.specs.Outcomes.{no_totals};
 ghost use Rattle.ilpstream_net.specs.declared.error.RunError.TheVariants.{BadOption, Fault as IsFault};
-ghost use Rattle.ilpstream_frames.specs.declared.error.Fault.TheVariants.{NoMemory};
+ghost use Rattle.ilpstream_output.specs.declared.error.Fault.TheVariants.{NoMemory};
 
 use crate::beside::{Beside, Place, Unmade, is_replaced, replace};
 use crate::counts::counts_text;
 use crate::error::RunError;
 use crate::obstacle::{Obstacle, Step};
 use ilpstream_connector::{AccountTotals, Counts, Minutes};
-use ilpstream_frames::{Fault, TURNS, put};
+use ilpstream_output::{Fault, TURNS, put};
 use st_devices::CountWrite;
 use st_end::Totals;
 use std::alloc::{AllocError, Global};
@@ -82,7 +81,7 @@ pub(crate) fn totals_file<'a, N: Files<File = File>>(
 
 /// The totals of an end that has done nothing.
 pub(crate) fn nothing_yet() -> Totals
-    ensures { totals_seen result ≡ no_totals }
+    ensures { result ≡ no_totals }
 {
     Totals {
         accepted: 0,
@@ -110,7 +109,7 @@ pub(crate) fn places(alloc: Global, count: usize) -> Result<Vec<AccountTotals>, 
 /// The lines that report the totals of an end.
 #[tactic(auto, using(crate::proofs::Pieces::pieces))]
 fn totals_text(alloc: Global, totals: &Totals) -> Result<String, AllocError>
-    ensures { IfOk result (λ text. string_bytes text ≡ spec.totals_text (totals_seen totals.now)) }
+    ensures { IfOk result (λ text. string_bytes text ≡ spec.totals_text totals.now) }
 {
     let Totals {
         accepted,
@@ -187,7 +186,7 @@ fn put_totals<W: Write>(
     file: &mut CountWrite<W>,
     totals: &Totals,
 ) -> Result<(), Fault>
-    ensures { OnOk result (Appends (W.contents (device_of file.old)) (W.contents (device_of file.new)) (spec.totals_text (totals_seen totals.now))) }
+    ensures { OnOk result (Appends (W.contents (device_of file.old)) (W.contents (device_of file.new)) (spec.totals_text totals.now)) }
 {
     let text = totals_text(alloc, totals)?;
     let mut turns = TURNS;
@@ -240,7 +239,7 @@ pub(crate) fn tell_totals<W: Write>(
     file: &mut Option<CountWrite<W>>,
     totals: &Totals,
 ) -> Result<(), Fault>
-    ensures { IsToldIn W.contents file.old file.new (totals_seen totals.now) result }
+    ensures { IsToldIn W.contents file.old file.new totals.now result }
 {
     match file {
         Some(file) => put_totals(alloc, file, totals),

@@ -50,7 +50,6 @@ impl<A: Allocator + Copy> Model for HostAndToken<A> {
 
 /// A link to one neighbour by ILP over HTTP (RFC 0035, the synchronous mode). Each exchange opens a TCP connection of
 /// its own, sends one request and reads one response.
-#[derive(Drop)]
 pub struct HttpLink<'n, N: Net + Clock, A: Allocator + Copy> {
     net: &'n N,
     neighbour: Option<HostAndToken<A>>,
@@ -63,6 +62,22 @@ pub struct HttpLink<'n, N: Net + Clock, A: Allocator + Copy> {
     cause: Option<LinkCause>,
     alloc: A,
     global: Global,
+}
+
+// It is written out, so that a caller does not prove again how each part is dropped.
+impl<'n, N: Net + Clock, A: Allocator + Copy> Drop for HttpLink<'n, N, A> {
+    fn drop(self) {
+        let HttpLink {
+            net: _,
+            neighbour: _,
+            address: _,
+            turns: _,
+            faults: _,
+            cause: _,
+            alloc: _,
+            global: _,
+        } = self;
+    }
 }
 
 /// Which fault of a link a refusal of HTTP is: the device's if a read or a write failed.

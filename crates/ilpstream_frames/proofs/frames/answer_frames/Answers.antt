@@ -1,7 +1,7 @@
 use Rattle.std.proofs.Common.{ap, refl, sym, ◌∙◌}
 use Rattle.ilpstream_frames.specs.Progress.{State, at_start}
 use Rattle.ilpstream_frames.proofs.Progressing.{answers_all_as, begins, begins_runs, covers_start}
-use Rattle.ilpstream_frames.proofs.Spending.{spends_writes}
+use Rattle.ilpstream_output.proofs.Spending.{spends_writes}
 use Rattle.st_devices.specs.Tallies.{device_of, tally_of}
 use Rattle.ilpstream_frames.proofs.frames.answer_frames.Goals as goal
 

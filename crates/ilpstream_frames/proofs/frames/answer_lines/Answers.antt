@@ -1,6 +1,6 @@
 use Rattle.std.proofs.Common.{refl, ◌∙◌, arith}
 use Rattle.ilpstream_frames.proofs.Progressing.{begins, covers_start}
-use Rattle.ilpstream_frames.proofs.Spending.{spends_nothing, spends_turn}
+use Rattle.ilpstream_output.proofs.Spending.{spends_nothing, spends_turn}
 use Rattle.st_devices.specs.Tallies.{device_of, tally_of}
 use Rattle.ilpstream_frames.proofs.frames.answer_lines.Goals as goal
 

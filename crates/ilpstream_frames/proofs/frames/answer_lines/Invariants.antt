@@ -1,6 +1,6 @@
 use Rattle.std.proofs.Common.{◌≡◌, ◌≤◌, ◌+◌, ◌*◌}
 use Rattle.st_devices.specs.Tallies.{device_of, tally_of}
-use Rattle.ilpstream_frames.specs.Endings.{SpendsTurns, StaysFlushed}
+use Rattle.ilpstream_output.specs.Endings.{SpendsTurns, StaysFlushed}
 use Rattle.ilpstream_frames.specs.Progress.{Covers}
 use Rattle.ilpstream_frames.proofs.frames.answer_lines.Given as goal
 

@@ -1,5 +1,5 @@
 use Rattle.std.proofs.Common.{◌≡◌, length}
-use Rattle.ilpstream_frames.specs.Endings.{StaysFlushed}
+use Rattle.ilpstream_output.specs.Endings.{StaysFlushed}
 use Rattle.ilpstream_frames.specs.Inboxes.{runs_text}
 use Rattle.ilpstream_frames.proofs.Progressing.{WritesRuns}
 use Rattle.st_devices.specs.Tallies.{TakesTurns, device_of, tally_of}

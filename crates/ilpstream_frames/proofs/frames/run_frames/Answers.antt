@@ -1,5 +1,5 @@
 use Rattle.std.proofs.Common.{refl, inl, inr, arith}
-use Rattle.ilpstream_frames.proofs.Spending.{ended_by, ended_well}
+use Rattle.ilpstream_output.proofs.Spending.{ended_by, ended_well}
 use Rattle.st_devices.specs.Tallies.{tally_of}
 use Rattle.ilpstream_frames.proofs.frames.run_frames.Goals as goal
 

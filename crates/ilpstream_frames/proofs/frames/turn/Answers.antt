@@ -1,6 +1,6 @@
 use Rattle.std.proofs.Common.{◌≡◌, List, [], ◌++◌, ℕ, take, subst, ap, refl, ◌∙◌}
 use Rattle.std.specs.Io.KnownBytes.{Appends}
-use Rattle.ilpstream_frames.specs.Endings.{WritesPart}
+use Rattle.ilpstream_output.specs.Endings.{WritesPart}
 use Rattle.ilpstream_frames.proofs.Progressing.{begins, begins_at_end, begins_in_piece, covers_ended, covers_piece, covers_same, on_err}
 use Rattle.st_devices.specs.Tallies.{device_of}
 use Rattle.ilpstream_frames.proofs.frames.turn.Goals as goal

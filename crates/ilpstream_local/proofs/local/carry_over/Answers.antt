@@ -4,7 +4,7 @@ use Rattle.st_devices.specs.Tallies.{device_of}
 use Rattle.ilpstream_local.specs.Parts.{joined, part_at, part_size, stream_at}
 use Rattle.ilpstream_local.specs.Playing.{read_on}
 use Rattle.ilpstream_settings.specs.declared.settings.LocalSettings.{LocalSettings}
-use Rattle.ilpstream_local.specs.Endings.{WritesPart}
+use Rattle.ilpstream_output.specs.Endings.{WritesPart}
 use Rattle.ilpstream_local.specs.Sends.{AreOf}
 use Rattle.ilpstream_local.proofs.Cuts.{parts_whole}
 use Rattle.ilpstream_local.proofs.Joined.{joined_same}

@@ -3,7 +3,7 @@ use Rattle.std.specs.Io.KnownBytes.{Appends}
 use Rattle.st_devices.specs.Tallies.{device_of}
 use Rattle.ilpstream_local.specs.Parts.{stream_at}
 use Rattle.ilpstream_local.specs.Playing.{read_on}
-use Rattle.ilpstream_local.specs.Endings.{WritesPart}
+use Rattle.ilpstream_output.specs.Endings.{WritesPart}
 use Rattle.ilpstream_local.proofs.Joined.{part_of_whole, writes_next, writes_part}
 use Rattle.ilpstream_local.proofs.local.put_parts.Goals as goal
 

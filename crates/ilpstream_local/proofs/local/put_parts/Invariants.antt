@@ -3,7 +3,7 @@ use Rattle.std.specs.Io.KnownBytes.{Appends}
 use Rattle.st_devices.specs.Tallies.{TakesTurns, device_of, tally_of}
 use Rattle.ilpstream_local.specs.Parts.{joined, stream_at}
 use Rattle.ilpstream_local.specs.Playing.{read_on}
-use Rattle.ilpstream_local.specs.Endings.{StaysFlushed}
+use Rattle.ilpstream_output.specs.Endings.{StaysFlushed}
 use Rattle.ilpstream_local.proofs.local.put_parts.Given as goal
 
 abbrev pub invariant-loop-place : goal.invariant-loop-place

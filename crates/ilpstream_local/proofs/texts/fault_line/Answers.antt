@@ -2,7 +2,7 @@ use Rattle.std.proofs.Common.{sym, ap}
 use Rattle.std.specs.Fmt.{digits}
 use Rattle.ilpstream_local.specs.declared.fault.LocalFault.{LocalFault}
 use Rattle.ilpstream_local.specs.Errors.{fault_number}
-use Rattle.ilpstream_local.specs.Texts.{fault_text}
+use Rattle.ilpstream_output.specs.Texts.{fault_text}
 use Rattle.ilpstream_local.proofs.texts.fault_line.Goals as goal
 
 pub returns-in-Failed : goal.returns-in-Failed

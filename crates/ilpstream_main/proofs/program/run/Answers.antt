@@ -4,7 +4,7 @@ use Rattle.clap.specs.declared.error.kind.ErrorKind.TheVariants.{OutOfMemory}
 use Rattle.st_devices.specs.Tallies.{tally_of}
 use Rattle.ilpstream_words.specs.declared.request.Request.{Request}
 use Rattle.ilpstream_words.specs.Words.{command_of, refusals}
-use Rattle.ilpstream_frames.specs.Endings.{HasEnded}
+use Rattle.ilpstream_output.specs.Endings.{HasEnded}
 use Rattle.ilpstream_main.specs.Endings.{DoesUnless}
 use Rattle.ilpstream_main.specs.Streams.{missing}
 use Rattle.ilpstream_main.proofs.Asked.{asked_lawful, frames_alone}

@@ -1,8 +1,8 @@
 use Rattle.std.proofs.Common.{ap, refl, inl, inr}
 use Rattle.std.specs.Prelude.{Err}
-use Rattle.ilpstream_frames.specs.declared.error.Fault.{Fault}
-use Rattle.ilpstream_frames.specs.Endings.{most_turns}
-use Rattle.ilpstream_frames.proofs.Spending.{ended_by, ended_well, not_the_reader, spends_nothing, spends_writes}
+use Rattle.ilpstream_output.specs.declared.error.Fault.{Fault}
+use Rattle.ilpstream_output.specs.Endings.{most_turns}
+use Rattle.ilpstream_output.proofs.Spending.{ended_by, ended_well, not_the_reader, spends_nothing, spends_writes}
 use Rattle.st_devices.specs.Tallies.{tally_of}
 use Rattle.ilpstream_main.proofs.program.show.Goals as goal
 

@@ -4,9 +4,9 @@ use Rattle.std.specs.Prelude.{◌≢◌, Option, Some, None, unwrap_or}
 use Rattle.st_devices.specs.Faults.{count_after}
 use Rattle.st_devices.specs.Tallies.{TakesTurns}
 use Rattle.st_devices.specs.declared.tally.Tally.{Tally}
-use Rattle.ilpstream_frames.specs.declared.error.Fault.{Fault}
-use Rattle.ilpstream_frames.specs.declared.error.Fault.TheVariants as fault
-use Rattle.ilpstream_frames.specs.Endings.{HasEnded, SpendsTurns, StaysFlushed, most_turns, reader_faults, writer_faults}
+use Rattle.ilpstream_output.specs.declared.error.Fault.{Fault}
+use Rattle.ilpstream_output.specs.declared.error.Fault.TheVariants as fault
+use Rattle.ilpstream_output.specs.Endings.{HasEnded, SpendsTurns, StaysFlushed, most_turns, reader_faults, writer_faults}
 
 pub spends_nothing : (r w : Tally) (n : ℕ) → SpendsTurns r r w w n n
 spends_nothing r w n = (0, 0, omega arith, omega arith, omega arith)

@@ -3,11 +3,11 @@
 ghost use Rattle.std.specs.Prelude.{◌≡◌, ◌≤◌};
 ghost use Rattle.st_devices.specs.Tallies.{tally_of};
 ghost use Rattle.st_devices.specs.declared.tally.Tally.{Tally};
-ghost use Rattle.ilpstream_frames.specs.Endings.{HasEnded};
-ghost use Rattle.ilpstream_main.specs.Explain.{Explains, WritesText};
+ghost use Rattle.ilpstream_output.specs.Endings.{HasEnded};
+ghost use Rattle.ilpstream_explain.specs.Explain.{Explains, WritesText};
 
-use ilpstream_explain::explanation;
-use ilpstream_frames::{TURNS, put, say, tell_fault};
+use crate::explanation;
+use ilpstream_output::{TURNS, put, say, tell_fault};
 use st_devices::CountWrite;
 use std::io::Write;
 
@@ -33,7 +33,7 @@ fn write_text<W: Write, E: Write>(
 
 /// Prints what a number means: each error with this number, which commands report it, its cause, and what to do. Status 0,
 /// or that of a fault. If no error has the number, that is reported to `errors`, and the status is 2.
-pub(crate) fn explain<W: Write, E: Write>(
+pub fn explain<W: Write, E: Write>(
     number: u8,
     writer: &mut CountWrite<W>,
     errors: &mut CountWrite<E>,

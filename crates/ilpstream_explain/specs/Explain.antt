@@ -1,12 +1,15 @@
 -- What the command `explain` prints, and how it ends.
-use Rattle.std.specs.Prelude.{◌≡◌, ◌⊎◌, ℕ, List, Option, Some, None}
+use Rattle.std.specs.Prelude.{◌≡◌, ◌⊎◌, ℕ, List, Option, Some, None, codes}
 use Rattle.std.specs.Io.KnownBytes.{Appends}
 use Rattle.st_devices.specs.Tallies.{device_of}
 use Rattle.st_devices.specs.declared.counted.Counting.{Counting}
-use Rattle.ilpstream_frames.specs.declared.error.Fault.{Fault}
-use Rattle.ilpstream_frames.specs.Endings.{Says, TellsFault, WritesPart}
+use Rattle.ilpstream_output.specs.declared.error.Fault.{Fault}
+use Rattle.ilpstream_output.specs.Endings.{Says, TellsFault, WritesPart}
 use Rattle.ilpstream_explain.specs.Explaining.{explanation}
-use Rattle.ilpstream_main.specs.Texts.{no_fault_text}
+
+-- what is written for a number that `explain` does not know
+abbrev pub no_fault_text : List ℕ
+no_fault_text = codes "error: no fault and no refusal has this number\n"
 
 -- a text was written whole, w the writer before and v now; or the first bytes of it, all of them or fewer, and a fault was
 -- reported to the writer for errors, e before and f now

@@ -1,9 +1,9 @@
 use Rattle.std.proofs.Common.{sym, ap}
 use Rattle.std.specs.Fmt.{digits}
-use Rattle.ilpstream_frames.specs.declared.error.Fault.{Fault}
-use Rattle.ilpstream_frames.specs.Errors.{fault_number}
-use Rattle.ilpstream_frames.specs.Texts.{fault_text}
-use Rattle.ilpstream_frames.proofs.texts.fault_line.Goals as goal
+use Rattle.ilpstream_output.specs.declared.error.Fault.{Fault}
+use Rattle.ilpstream_output.specs.Errors.{fault_number}
+use Rattle.ilpstream_output.specs.Texts.{fault_text}
+use Rattle.ilpstream_output.proofs.texts.fault_line.Goals as goal
 
 pub returns-in-Input : goal.returns-in-Input
 unfolding digits

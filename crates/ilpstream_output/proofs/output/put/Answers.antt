@@ -2,7 +2,7 @@ use Rattle.std.proofs.Common.{length, arith}
 use Rattle.std.proofs.KnownBytes.{Appends-kept}
 use Rattle.std.proofs.lemmas.List.{take_all}
 use Rattle.st_devices.specs.Tallies.{device_of}
-use Rattle.ilpstream_frames.proofs.output.put.Goals as goal
+use Rattle.ilpstream_output.proofs.output.put.Goals as goal
 
 pub returns-in-Ok-clause-part : goal.returns-in-Ok-clause-part
 returns-in-Ok-clause-part g c = (

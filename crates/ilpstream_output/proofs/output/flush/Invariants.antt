@@ -1,7 +1,7 @@
 use Rattle.std.proofs.Common.{◌≡◌}
 use Rattle.std.specs.Io.KnownBytes.{Keeps}
 use Rattle.st_devices.specs.Tallies.{TakesTurns, device_of, tally_of}
-use Rattle.ilpstream_local.proofs.output.flush.Given as goal
+use Rattle.ilpstream_output.proofs.output.flush.Given as goal
 
 abbrev pub decreases-loop-turns : goal.decreases-loop-turns
 decreases-loop-turns g l = l.turns

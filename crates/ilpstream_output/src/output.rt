@@ -3,11 +3,15 @@
 ghost use Rattle.std.specs.Prelude.{◌≡◌, ◌≢◌, Err, IfErr, OnOk, true};
 ghost use Rattle.std.specs.Io.KnownBytes.{Appends, Keeps};
 ghost use Rattle.st_devices.specs.Tallies.{TakesTurns, device_of, tally_of};
-ghost use Rattle.ilpstream_frames.specs.Endings.{StaysFlushed, WritesPart, fault_of, writer_faults};
+ghost use Rattle.ilpstream_output.specs.Endings.{Says, StaysFlushed, TellsFault, WritesPart, fault_of, writer_faults};
 
 use crate::error::Fault;
+use crate::texts::fault_line;
 use st_devices::{CountWrite, FlushTurn, PutError, flush_turn, put_all};
 use std::io::Write;
+
+/// The most calls of its reader and its writer that a run makes, and then again of its writer for errors.
+pub const TURNS: u64 = 2_147_483_647;
 
 /// Flushes the writer. Each call takes one of `turns`.
 fn flush<W: Write>(writer: &mut CountWrite<W>, turns: &mut u64) -> Result<(), Fault>
@@ -51,4 +55,20 @@ pub fn put<W: Write>(writer: &mut CountWrite<W>, text: &[u8], turns: &mut u64) -
         Err(PutError::Fault(_)) => Err(Fault::Output),
         Err(PutError::Turns(_)) => Err(Fault::Turns),
     }
+}
+
+/// Writes a text, as far as the writer accepts it. A failure is ignored.
+pub fn say<E: Write>(errors: &mut CountWrite<E>, text: &str)
+    ensures { Says text.now E.contents errors.old errors.new }
+{
+    let mut turns = TURNS;
+    let _ = put(errors, text.as_bytes(), &mut turns);
+}
+
+/// Writes the line of a fault, as far as the writer accepts it. Returns the exit status of a fault, 1.
+pub fn tell_fault<E: Write>(errors: &mut CountWrite<E>, fault: Fault) -> u8
+    ensures { TellsFault fault E.contents errors.old errors.new result }
+{
+    say(errors, fault_line(fault));
+    1
 }
