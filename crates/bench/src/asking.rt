@@ -1,5 +1,6 @@
 //! What the next packet of a sender costs, with streams that are open and Prepares in flight.
 
+use st_end::StreamId;
 use st_frames::Frame;
 use st_sender::{EndConfig, Outbox};
 use std::alloc::Global;
@@ -21,23 +22,26 @@ pub(crate) struct Filling {
 }
 
 /// Opens a stream whose peer accepts many bytes, and much money.
-fn open(outbox: &mut Outbox<Global>, stream: u8) {
-    if stream < 65 && !outbox.has_stream(stream) {
+fn open(outbox: &mut Outbox<Global>, stream: StreamId) {
+    if !outbox.has_stream(stream) {
         outbox.add_stream(stream);
     }
     outbox.raise_limits(&Frame::StreamMaxData {
-        stream: u64::from(stream),
+        stream: u64::from(stream.number()),
         max_offset: 1 << 60,
     });
     outbox.raise_limits(&Frame::StreamMaxMoney {
-        stream: u64::from(stream),
+        stream: u64::from(stream.number()),
         receive_max: 1 << 40,
         total_received: 0,
     });
 }
 
 /// Whether bytes of a stream were accepted, and sent in a packet.
-fn send(outbox: &mut Outbox<Global>, stream: u8, bytes: &[u8]) -> bool {
+fn send(outbox: &mut Outbox<Global>, number: u8, bytes: &[u8]) -> bool {
+    let Some(stream) = StreamId::new(number) else {
+        return false;
+    };
     if outbox.accept(stream, bytes).is_err() {
         return false;
     }
@@ -56,24 +60,29 @@ fn filled(alloc: Global, bytes: &[u8], filling: Filling) -> Option<Outbox<Global
     outbox.raise_limits(&Frame::ConnectionMaxData {
         max_offset: 1 << 60,
     });
-    for stream in 1..65_u8 {
-        if stream <= filling.streams {
+    for number in 1..65_u8 {
+        if let Some(stream) = StreamId::new(number)
+            && number <= filling.streams
+        {
             open(&mut outbox, stream);
         }
     }
-    let mut stream = 0_u8;
+    let mut number = 0_u8;
     for _ in 0..filling.flights {
-        stream = if stream >= filling.streams {
+        number = if number >= filling.streams {
             1
         } else {
-            stream.saturating_add(1)
+            number.saturating_add(1)
         };
-        if !send(&mut outbox, stream, bytes) {
+        if !send(&mut outbox, number, bytes) {
             return None;
         }
     }
-    for stream in 1..65_u8 {
-        if stream <= filling.busy && outbox.accept(stream, bytes).is_err() {
+    for number in 1..65_u8 {
+        if let Some(stream) = StreamId::new(number)
+            && number <= filling.busy
+            && outbox.accept(stream, bytes).is_err()
+        {
             return None;
         }
     }

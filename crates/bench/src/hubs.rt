@@ -71,7 +71,7 @@ fn send_on<'a, N: HubName<Global>, M: HubName<Global>, R: Wait + std::time::Cloc
             clock: &mut mine,
             gauge: &from.gauge,
             seat: &mut seat,
-            stream: 0,
+            stream: None,
             rest: Duration::from_millis(IDLE),
             turns: u64::from(u32::MAX),
             watch: &mut Unwatched,

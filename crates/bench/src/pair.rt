@@ -1,6 +1,6 @@
 //! Two ends in memory.
 
-use st_end::{EndError, EndState, Flight, Role};
+use st_end::{EndError, EndState, Flight, Role, StreamId};
 use st_ilp::Moment;
 use st_keys::Keys;
 use st_oer::is_address;
@@ -67,7 +67,7 @@ fn pass(
 fn pass_piece(
     from: &mut EndState<Global>,
     to: &mut EndState<Global>,
-    stream: u8,
+    stream: StreamId,
     piece: &[u8],
     number: u64,
 ) -> Result<u64, EndError> {
@@ -100,7 +100,9 @@ fn pass_pieces(
 ) -> Result<u64, EndError> {
     let mut read = 0_u64;
     for number in 0..pieces {
-        let stream = (number % streams.clamp(1, 64) + 1) as u8;
+        let Some(stream) = StreamId::new((number % streams.clamp(1, 64) + 1) as u8) else {
+            return Err(EndError::NoStream);
+        };
         let iv = number.saturating_add(2 * OWN);
         let more = pass_piece(client, server, stream, piece, iv)?;
         read = read.saturating_add(more);

@@ -11,7 +11,7 @@ ghost use Rattle.st_end.specs.Reading as reading;
 ghost use Rattle.st_end.specs.Receiving.{received};
 ghost use Rattle.host_objects.specs.Ends.{IsNewEnd, IsSameEnd, IsFlight, HasNoFlight, IsSpent, answered_seen, piece_seen, IfNoBytes, SendsKept, TakesAnswer, FindsNoFlight};
 
-use st_end::{EndError, EndState, OpenFlight, Received, Role};
+use st_end::{EndError, EndState, OpenFlight, Received, Role, by_number};
 use st_ilp::Moment;
 use st_keys::Keys;
 use st_receiver::Got;
@@ -136,7 +136,7 @@ impl HostEnd {
         ensures output { IfOk result (λ piece. IfNoBytes piece (self.new.output ≡ self.old.output)) }
         ensures unchanged { OnErr result (self.new ≡ self.old) }
     {
-        match self.state.read(stream, max)? {
+        match by_number::read(&mut self.state, stream, max)? {
             Got::Bytes(bytes) => {
                 self.output = bytes;
                 Ok(Piece::Bytes)

@@ -10,7 +10,7 @@ use crate::handle::{is_empty, put_new};
 use host_objects::{
     ABORTED, ARGUMENT, DONE, ENDED, Handle, HostEnd, IDLE, MISUSE, Object, Piece, code_of,
 };
-use st_end::{EndError, Role};
+use st_end::{EndError, Role, by_number};
 use st_oer::Rate;
 use st_sender::EndConfig;
 use std::alloc::Global;
@@ -132,8 +132,8 @@ pub extern "C" fn ilp_end_open_stream(alloc: Global, handle: &mut Handle, stream
     ensures { OnEnd handle.old.state handle.new.state result (λ old new. Numbers old new result stream.new (calls.open_stream old.state)) }
 {
     on_end!(alloc, handle, end => match end.state.open_stream() {
-        Ok(number) => {
-            *stream = u32::from(number);
+        Ok(opened) => {
+            *stream = u32::from(opened.number());
             DONE
         }
         Err(error) => u32::from(error.number()),
@@ -153,7 +153,7 @@ pub extern "C" fn ilp_end_write(
     let Ok(stream) = u8::try_from(stream) else {
         return ARGUMENT;
     };
-    on_end!(alloc, handle, end => code_of(end.state.write(stream, bytes)))
+    on_end!(alloc, handle, end => code_of(by_number::write(&mut end.state, stream, bytes)))
 }
 
 /// Closes a stream cleanly.
@@ -164,7 +164,7 @@ pub extern "C" fn ilp_end_close(alloc: Global, handle: &mut Handle, stream: u32)
     let Ok(stream) = u8::try_from(stream) else {
         return ARGUMENT;
     };
-    on_end!(alloc, handle, end => code_of(end.state.close(stream)))
+    on_end!(alloc, handle, end => code_of(by_number::close(&mut end.state, stream)))
 }
 
 /// Aborts a stream with a code other than 1.
@@ -182,7 +182,7 @@ pub extern "C" fn ilp_end_abort(alloc: Global, handle: &mut Handle, stream: u32,
     let Ok(reason) = u8::try_from(reason) else {
         return ARGUMENT;
     };
-    on_end!(alloc, handle, end => code_of(end.state.abort(stream, reason)))
+    on_end!(alloc, handle, end => code_of(by_number::abort(&mut end.state, stream, reason)))
 }
 
 /// Offers this amount, in units, on a stream.
@@ -193,7 +193,7 @@ pub extern "C" fn ilp_end_offer(alloc: Global, handle: &mut Handle, stream: u32,
     let Ok(stream) = u8::try_from(stream) else {
         return ARGUMENT;
     };
-    on_end!(alloc, handle, end => code_of(end.state.offer(stream, amount)))
+    on_end!(alloc, handle, end => code_of(by_number::offer(&mut end.state, stream, amount)))
 }
 
 /// Lets a stream receive up to an amount in all.
@@ -210,7 +210,7 @@ pub extern "C" fn ilp_end_set_receive_max(
     let Ok(stream) = u8::try_from(stream) else {
         return ARGUMENT;
     };
-    on_end!(alloc, handle, end => code_of(end.state.set_receive_max(stream, amount)))
+    on_end!(alloc, handle, end => code_of(by_number::set_receive_max(&mut end.state, stream, amount)))
 }
 
 /// Outputs the first bytes that can be read on a stream, at most `max`, which is not 0; `len` is how many.

@@ -10,7 +10,7 @@ ghost use Rattle.ilpstream_c.specs.Ends.{Says, SaysRoom, Lists, ready_streams, o
 use crate::end::on_end;
 use crate::handle::copy_out;
 use host_objects::{ARGUMENT, DONE, Handle, IDLE, MISUSE, Object};
-use st_end::{EndError, EndState, Failed, FailedKind, Totals};
+use st_end::{EndError, EndState, Failed, FailedKind, Totals, by_number};
 use std::alloc::{AllocError, Global};
 
 /// What an end did so far.
@@ -62,7 +62,7 @@ pub extern "C" fn ilp_end_room(
     let Ok(stream) = u8::try_from(stream) else {
         return ARGUMENT;
     };
-    on_end!(alloc, handle, end => match end.state.room(stream) {
+    on_end!(alloc, handle, end => match by_number::room(&end.state, stream) {
         Ok(found) => {
             *room = found as usize;
             DONE
@@ -76,7 +76,7 @@ fn ready_streams(alloc: Global, state: &EndState<Global>) -> Result<Vec<u8>, All
     ensures { IfOk result (λ found. found.items ≡ ready_streams state.now) }
 {
     let mut found = Vec::with_capacity(alloc, 64)?;
-    found.extend((1..65_u8).filter(|stream| state.is_ready(*stream)))?;
+    found.extend((1..65_u8).filter(|stream| by_number::is_ready(state, *stream)))?;
     Ok(found)
 }
 
@@ -85,7 +85,7 @@ fn open_streams(alloc: Global, state: &EndState<Global>) -> Result<Vec<u8>, Allo
     ensures { IfOk result (λ found. found.items ≡ open_streams state.now) }
 {
     let mut found = Vec::with_capacity(alloc, 64)?;
-    found.extend((1..65_u8).filter(|stream| state.has_stream(*stream)))?;
+    found.extend((1..65_u8).filter(|stream| by_number::has_stream(state, *stream)))?;
     Ok(found)
 }
 
@@ -137,7 +137,7 @@ pub extern "C" fn ilp_end_has_stream(
         return ARGUMENT;
     };
     on_end!(alloc, handle, end => {
-        *answer = u32::from(end.state.has_stream(stream));
+        *answer = u32::from(by_number::has_stream(&end.state, stream));
         DONE
     })
 }
@@ -156,7 +156,7 @@ pub extern "C" fn ilp_end_settled(
         return ARGUMENT;
     };
     on_end!(alloc, handle, end => {
-        *answer = u32::from(end.state.settled(stream));
+        *answer = u32::from(by_number::settled(&end.state, stream));
         DONE
     })
 }

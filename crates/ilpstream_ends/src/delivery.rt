@@ -9,14 +9,14 @@ ghost use Rattle.ilpstream_ends.specs.Keeping.{Delivers, Gives, IsOfDelivery, Ke
 
 use ilpstream_serving::TransferError;
 use st_devices::Counting;
-use st_end::{EndError, EndState};
+use st_end::{EndError, EndState, StreamId};
 use st_file::{FileError, flush_all, write_piece};
 use st_receiver::Got;
 use std::alloc::Global;
 use std::io::Write;
 
-/// The number of the stream that carries the file and the money.
-pub(crate) const STREAM: u8 = 1;
+/// The stream that carries the file and the money.
+pub(crate) const STREAM: StreamId = StreamId::FIRST;
 
 /// The most bytes of one read.
 const PIECE: usize = 65_536;

@@ -3,7 +3,6 @@
 ghost use Rattle.std.specs.Prelude.{◌≡◌, true, IfErr, OnOk, IsSome, Err};
 ghost use Rattle.st_devices.specs.Tallies.{device_of, tally_of};
 ghost use Rattle.st_end.specs.Calls as calls;
-ghost use Rattle.st_end.specs.Seen.{totals_seen};
 ghost use Rattle.ilpstream_ends.specs.Keeping.{Receives, ReceivesFrom, TellsTotals, faults_reported, file_stream};
 ghost use Rattle.ilpstream_ends.specs.Lobby.{HaveEnded, HaveFailed, HaveNoListener, IsOfLobby};
 ghost use Rattle.ilpstream_serving.specs.declared.error.TransferError.TheVariants.{Accept, Silent, Turns};
@@ -337,7 +336,7 @@ pub fn receive_on<
 ) -> Ended
 where
     L::Stream: Read + Write + OpenStream + Send,
-    ensures told { TellsTotals (calls.set_receive_max end file_stream terms.entry.receive_max) (W.contents (device_of writer.old)) (W.contents (device_of writer.new)) (totals_seen result.totals) result.result }
+    ensures told { TellsTotals (calls.set_receive_max end file_stream terms.entry.receive_max) (W.contents (device_of writer.old)) (W.contents (device_of writer.new)) result.totals result.result }
     ensures flushed { OnOk result.result ((tally_of writer.new).flushed ≡ true) }
     ensures faults { (tally_of writer.new).faults ≡ faults_reported result.result (tally_of writer.old).faults }
     ensures patient { result.result ≡ Err Silent → IsSome terms.entry.patience }
@@ -362,7 +361,7 @@ where
         watch,
     );
     watch.end();
-    tell_end(rt, terms.log, u64::from(STREAM), &result);
+    tell_end(rt, terms.log, u64::from(STREAM.number()), &result);
     Ended {
         result,
         totals: receiver.end.totals(),

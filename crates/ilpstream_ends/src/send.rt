@@ -2,7 +2,6 @@
 
 ghost use Rattle.std.specs.Prelude.{◌≡◌, ℕ, length, Err, IfErr, IfOk, IfSome, IsOkUnless};
 ghost use Rattle.std.specs.Duration.{as_nanos};
-ghost use Rattle.st_end.specs.Seen.{totals_seen};
 ghost use Rattle.st_queues.specs.Lanes.{ring_at};
 ghost use Rattle.st_file.specs.Errors.{counted};
 ghost use Rattle.st_hub.specs.Hub.{IsNew};
@@ -122,7 +121,7 @@ where
     R::Stream: Send,
     R::Listener: Send,
     ensures whole { IfOk result.result (λ n. IfSome (I.remaining input) (λ bytes. n ≡ counted (length bytes))) }
-    ensures told { IsTold result.result (totals_seen result.totals) }
+    ensures told { IsTold result.result result.totals }
 {
     let Opened {
         hub,
@@ -157,7 +156,7 @@ where
 /// A transfer that did not begin.
 fn refused(error: TransferError) -> Ended
     ensures refused { result.result ≡ Err error }
-    ensures told { totals_seen result.totals ≡ no_totals }
+    ensures told { result.totals ≡ no_totals }
 {
     Ended {
         result: Err(error),
@@ -197,7 +196,7 @@ where
     requires reads { (k : ℕ) → N.read_ring k ≡ ring_at rings.reads k }
     requires name { (blank.name ≡ N.name) × (blank.parts ≡ N.parts) × (blank.parts ≡ 64) }
     ensures whole { IfOk result.result (λ n. IfSome (I.remaining input) (λ bytes. n ≡ counted (length bytes))) }
-    ensures told { ComesTo end terms.entry.money result.result (totals_seen result.totals) }
+    ensures told { ComesTo end terms.entry.money result.result result.totals }
 {
     match open::<N>(end, rings, blank, terms.money) {
         Ok(opened) => transfer(rt, alloc, opened, input, random, terms, watch),
@@ -252,7 +251,7 @@ where
     R::Listener: Send,
     requires fresh { IsNew end }
     ensures whole { IfOk result.result (λ n. IfSome (I.remaining input) (λ bytes. n ≡ counted (length bytes))) }
-    ensures told { ComesTo end terms.entry.money result.result (totals_seen result.totals) }
+    ensures told { ComesTo end terms.entry.money result.result result.totals }
 {
     match rings_of(alloc) {
         Ok(rings) => run::<Brand, I, G, V, R>(

@@ -53,7 +53,7 @@ pub(crate) fn work_alone<N: HubName<Global>, I: Ivs, R: Net + Wait + std::time::
                 },
                 gauge,
                 seat: &mut seat,
-                stream: STREAM,
+                stream: Some(STREAM),
                 rest: Duration::from_millis(REST),
                 turns: terms.turns,
                 watch: &mut ToldFlights { rt, told },

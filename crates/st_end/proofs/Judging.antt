@@ -17,6 +17,7 @@ use Rattle.st_end.specs.Receiving.{Received, Rejects, judged_as, is_own_conditio
 use Rattle.st_end.specs.Inside.{taken_by}
 use Rattle.st_end.proofs.Streams.{sends, receives}
 use Rattle.st_end.proofs.Lawfulness.{both_open, lawful_as}
+use Rattle.st_end.proofs.Numbered.{numbered_as}
 use Rattle.st_end.proofs.Taking.{fulfilled_lawful}
 
 -- ---- the rule that applies
@@ -64,7 +65,7 @@ taken_answer e now q p t s bytes peer same own fault a b c text =
     ∙ ap (λ (x : EndState). both (record { bytes = bytes; reason = 0; amount = q.amount; sequence = Some p.sequence }) x) (sym (fulfilled_from e p (effect e.receiving p q.amount) t s peer a b c)))
 
 pub same_lawful : (e : EndState) (t : Receiving) (s : Sending) → IsLawful e → s ≡ e.sending → t ≡ e.receiving → IsLawful (record e { sending = s; receiving = t })
-same_lawful e t s l a b = lawful_as e s t (ap (λ (x : Sending). x.flights) a) (ap receives b ∙ both_open e l ∙ sym (ap sends a)) l
+same_lawful e t s l a b = lawful_as e s t (ap (λ (x : Sending). x.flights) a) (ap receives b ∙ both_open e l ∙ sym (ap sends a)) (numbered_as e.sending s (ap sends a) l.numbers) (ap (λ (x : Receiving). x.parity) b) l
 
 -- ---- a decision
 

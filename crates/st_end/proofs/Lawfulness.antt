@@ -1,5 +1,5 @@
 -- What is lawful at first, and what stays so.
-use Rattle.std.proofs.Common.{◌≡◌, ◌≢◌, ℕ, Bool, true, false, cond, Option, Some, None, Result, Ok, Err, refl, ap, ◌∙◌, sym, subst, List, [], ◌∷◌, nat_eq, inl, inr, arith}
+use Rattle.std.proofs.Common.{◌≡◌, ◌≢◌, ◌<◌, ℕ, Bool, true, false, cond, Option, Some, None, Result, Ok, Err, refl, ap, ◌∙◌, sym, subst, List, [], ◌∷◌, nat_eq, inl, inr, arith}
 use Rattle.std.specs.Prelude.{is_some, MatchOption}
 use Rattle.std.specs.Ordering.{nat_cmp}
 use Rattle.std.specs.FinMap as map
@@ -15,25 +15,29 @@ use Rattle.st_frames.specs.Frames.{Known, Packet, frames_of, CloseFrame, Connect
 use Rattle.st_keys.specs.Keys.{DerivedKeys}
 use Rattle.st_keys.specs.Sealed.{opened}
 use Rattle.st_keys.specs.declared.error.KeyError.{KeyError}
-use Rattle.st_sender.specs.Sending.{Outgoing, SentFrame, Data, Whole, Flight, Config, Sending, new_sending, changed_at, changed}
+use Rattle.st_sender.specs.Sending.{Outgoing, SentFrame, Data, Whole, Flight, Config, Sending, new_sending, new_outgoing, with_outgoing, changed_at, changed}
 use Rattle.st_sender.specs.Flights.{flight_at, without_flight}
 use Rattle.st_sender.specs.Answering.{after_acked, after_all_acked, landed, after_fulfilled, after_failed, Failure, Plain, after_told, after_all_told}
-use Rattle.st_receiver.specs.Streams.{Receiving, new_receiving}
+use Rattle.st_streams.specs.Numbers.{IsStreamNumber}
+use Rattle.st_receiver.specs.Streams as incoming
+use Rattle.st_receiver.specs.Streams.{Receiving, new_receiving, opened_stream}
+use Rattle.st_receiver.specs.Reading.{after_got}
 use Rattle.st_end.specs.declared.flight.Open.{Open}
 use Rattle.st_end.specs.State.{EndState}
 use Rattle.st_end.specs.Sending.{is_kept, open_flight, is_open}
 use Rattle.st_end.specs.Unsealed.{known_if, known}
 use Rattle.st_end.specs.Answers.{fits, raised, failure_of, answered_by, outcome_left, after_outcome, ended_with, ended}
 use Rattle.st_end.specs.Lawful.{IsLawful}
-use Rattle.st_end.proofs.Streams.{sends, receives, joined, alike, sends_stay}
+use Rattle.st_end.proofs.Streams.{sends, receives, joined, alike, sends_stay, opens_both, got_receives}
+use Rattle.st_end.proofs.Numbered.{AreNumbered, numbered_as, numbered_when_new, numbered_with}
 
 none_in_empty : (n : ℕ) → is_some (map.get (map.empty {X = List ℕ} {R = nat_cmp}) n) ≡ false
 none_in_empty n = ap is_some (map.get-empty nat_cmp n)
 
-pub lawful_when_new : (e : EndState) (config : Config) (parity : ℕ) → e.conditions ≡ map.empty → is_address e.own ≡ true → is_address e.peer ≡ true → e.sending ≡ new_sending config → e.receiving ≡ new_receiving parity → IsLawful e
-lawful_when_new e config parity none o p s r =
+pub lawful_when_new : (e : EndState) (config : Config) (parity : ℕ) → e.conditions ≡ map.empty → is_address e.own ≡ true → is_address e.peer ≡ true → e.sending ≡ new_sending config → e.receiving ≡ new_receiving parity → parity < 2 → IsLawful e
+lawful_when_new e config parity none o p s r low =
     let j = joined e.sending e.receiving (ap receives r ∙ sym (ap sends s)) in
-    record { own = o; peer = p; kept = λ n h. absurd (false≢true (sym (ap (λ m. is_some (map.get m n)) none ∙ none_in_empty n) ∙ h)); both = j.both; places = j.places }
+    record { own = o; peer = p; kept = λ n h. absurd (false≢true (sym (ap (λ m. is_some (map.get m n)) none ∙ none_in_empty n) ∙ h)); both = j.both; places = j.places; numbers = numbered_when_new e.sending (ap (λ (x : Sending). x.streams) s); parity = subst (λ (x : Receiving). x.parity < 2) (sym r) low }
 
 -- what flies, and which streams are open, is not changed by a call on a stream
 at_flights : (s : Sending) (k : ℕ) (f : Outgoing → Outgoing) (o : Option Outgoing) → (changed_at s k f o).flights ≡ s.flights
@@ -50,20 +54,30 @@ pub both_open : (e : EndState) → IsLawful e → receives e.receiving ≡ sends
 both_open e l = alike e.sending e.receiving l.places l.both
 
 -- an end that keeps its addresses, its conditions, what flies and which streams are open
-pub lawful_as : (e : EndState) (s : Sending) (r : Receiving) → s.flights ≡ e.sending.flights → receives r ≡ sends s → IsLawful e → IsLawful (record e { sending = s; receiving = r })
-lawful_as e s r same alike_now l =
+pub lawful_as : (e : EndState) (s : Sending) (r : Receiving) → s.flights ≡ e.sending.flights → receives r ≡ sends s → AreNumbered s → r.parity ≡ e.receiving.parity → IsLawful e → IsLawful (record e { sending = s; receiving = r })
+lawful_as e s r same alike_now numbers parity l =
     let j = joined s r alike_now in
-    record { own = l.own; peer = l.peer; kept = λ n h. subst (λ ps. is_some (flight_at ps n) ≡ true) (sym same) (l.kept n h); both = j.both; places = j.places }
+    record { own = l.own; peer = l.peer; kept = λ n h. subst (λ ps. is_some (flight_at ps n) ≡ true) (sym same) (l.kept n h); both = j.both; places = j.places; numbers = numbers; parity = subst (λ n. n < 2) (sym parity) l.parity }
 
 pub lawful_with : (e : EndState) (s : Sending) → Stays e.sending s → IsLawful e → IsLawful (record e { sending = s })
-lawful_with e s same l = lawful_as e s e.receiving same.0 (both_open e l ∙ sym same.1) l
+lawful_with e s same l = lawful_as e s e.receiving same.0 (both_open e l ∙ sym same.1) (numbered_as e.sending s same.1 l.numbers) refl l
 
 pub lawful_changed : (e : EndState) (s : Sending) (k : ℕ) (f : Outgoing → Outgoing) → s ≡ changed e.sending k f → IsLawful e → IsLawful (record e { sending = s })
 lawful_changed e s k f is l =
     lawful_with e s (ap (λ (x : Sending). x.flights) is ∙ flights_stay e.sending k f, ap sends is ∙ sends_stay e.sending k f) l
 
-pub lawful_received : (e : EndState) (r : Receiving) → receives r ≡ receives e.receiving → IsLawful e → IsLawful (record e { receiving = r })
-lawful_received e r same l = lawful_as e e.sending r refl (same ∙ both_open e l) l
+pub lawful_received : (e : EndState) (r : Receiving) → receives r ≡ receives e.receiving → r.parity ≡ e.receiving.parity → IsLawful e → IsLawful (record e { receiving = r })
+lawful_received e r same parity l = lawful_as e e.sending r refl (same ∙ both_open e l) l.numbers parity l
+
+-- a stream that is read
+pub lawful_got : (e : EndState) (r : Receiving) (k limit : ℕ) → r ≡ after_got e.receiving k limit → incoming.is_open e.receiving k ≡ true → IsLawful e → IsLawful (record e { receiving = r })
+lawful_got e r k limit a on l = lawful_received e r (ap receives a ∙ got_receives e.receiving k limit on) (ap (λ (x : Receiving). x.parity) a) l
+
+-- a stream that opens
+pub lawful_opened : (e : EndState) (s : Sending) (r : Receiving) (k : ℕ) → s ≡ with_outgoing e.sending k new_outgoing → r ≡ opened_stream e.receiving k → IsStreamNumber k → IsLawful e → IsLawful (record e { sending = s; receiving = r })
+lawful_opened e s r k a b number l =
+    lawful_as e s r (ap (λ (x : Sending). x.flights) a) (ap receives b ∙ opens_both e.sending e.receiving k (both_open e l) ∙ sym (ap sends a))
+    (subst AreNumbered (sym a) (numbered_with e.sending k number l.numbers)) (ap (λ (x : Receiving). x.parity) b) l
 
 -- ---- what answers and advertised limits do not change
 
@@ -172,6 +186,8 @@ lawful_after e flight p o at l =
       ];
       both = j.both;
       places = j.places;
+      numbers = numbered_as e.sending (outcome_left e flight p o) left.1 l.numbers;
+      parity = l.parity;
     }
 
 -- ---- open flights
@@ -223,6 +239,8 @@ lawful_left e after flight o p at l own peer r s c =
       kept = same_kept (after_outcome e flight p o) after s c left.kept;
       both = j.both;
       places = j.places;
+      numbers = numbered_as (outcome_left e flight p o) after.sending (ap sends s) left.numbers;
+      parity = subst (λ (x : Receiving). x.parity < 2) (sym r) l.parity;
     }
 
 pub lawful_ended : (e now after : EndState) (flight spent : Open) (o : Option (List ℕ)) → e ≡ now → spent ≡ flight → is_open now flight ≡ true → IsLawful e → after.own ≡ e.own → after.peer ≡ e.peer → after.receiving ≡ e.receiving
@@ -244,6 +262,8 @@ known_lawful_if true e iv flight is l = record {
   kept = λ n h. l.kept n (known_kept e.conditions flight.sequence n flight.condition (kept_found (map.get e.conditions flight.sequence) iv is) h);
   both = l.both;
   places = l.places;
+  numbers = l.numbers;
+  parity = l.parity;
 }
 
 pub known_lawful : (e : EndState) (iv : List ℕ) (flight : Open) → IsLawful e → IsLawful (known e iv flight)

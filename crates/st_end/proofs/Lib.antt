@@ -1,5 +1,6 @@
 pub mod Maps
 pub mod Streams
+pub mod Numbered
 pub mod Lawfulness
 pub mod Numbers
 pub mod Backs

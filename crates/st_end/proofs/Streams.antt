@@ -1,5 +1,5 @@
 -- Which streams are open, by number, at both sides of an end, and what leaves them as they are.
-use Rattle.std.proofs.Common.{◌≡◌, ℕ, zero, suc, ◌+◌, ◌<◌, ◌≤◌, Bool, true, false, not, ◌&&◌, cond, List, [], ◌∷◌, length, map, set, get_or, refl, sym, ap, subst, ◌∙◌, arith, Option, None, Some, inl, inr, nat_le, nat_lt}
+use Rattle.std.proofs.Common.{◌≡◌, ℕ, zero, suc, ◌+◌, ◌<◌, ◌≤◌, Bool, true, false, not, ◌&&◌, cond, List, [], ◌∷◌, length, map, set, get_or, refl, sym, ap, subst, ◌∙◌, arith, Option, None, Some, ◌⊎◌, inl, inr, nat_le, nat_lt}
 use Rattle.std.specs.Prelude.{is_some}
 use Rattle.std.specs.List.{fold, range_with_len}
 use Rattle.std.proofs.lemmas.Bool.{false≢true, cases_eq}
@@ -30,12 +30,12 @@ sends s = ones s.streams
 abbrev pub receives : Receiving → List Bool
 receives r = ones r.streams
 
-ones_at : {X : Type 0} (xs : Slots X) (k : ℕ) → is_some (slot xs k) ≡ get_or (ones xs) k false
+pub ones_at : {X : Type 0} (xs : Slots X) (k : ℕ) → is_some (slot xs k) ≡ get_or (ones xs) k false
 ones_at [] k = refl
 ones_at (x ∷ xs) zero = refl
 ones_at (x ∷ xs) (suc k) = ones_at xs k
 
-ones_with : {X : Type 0} (xs : Slots X) (k : ℕ) (x : X) → ones (with_slot xs k x) ≡ set (ones xs) k true
+pub ones_with : {X : Type 0} (xs : Slots X) (k : ℕ) (x : X) → ones (with_slot xs k x) ≡ set (ones xs) k true
 ones_with [] k x = refl
 ones_with (y ∷ ys) zero x = refl
 ones_with (y ∷ ys) (suc k) x = ap (λ bs. is_some y ∷ bs) (ones_with ys k x)
@@ -44,6 +44,10 @@ set_same : (bs : List Bool) (k : ℕ) → get_or bs k false ≡ true → set bs 
 set_same [] k e = refl
 set_same (b ∷ bs) zero e = ap (λ c. c ∷ bs) (sym e)
 set_same (b ∷ bs) (suc k) e = ap (λ cs. b ∷ cs) (set_same bs k e)
+
+-- a place is the one that was set, or has what it had
+pub set_cases : (bs : List Bool) (k j : ℕ) → (j ≡ k) ⊎ (get_or (set bs k true) j false ≡ get_or bs j false)
+set_cases bs k j = elim (cases_eq j k) [ inl same ↦ inl same | inr apart ↦ inr (set_there bs k true false j apart) ]
 
 -- an open stream that changes stays open
 stays_one : {X : Type 0} (xs : Slots X) (k : ℕ) (x : X) → is_some (slot xs k) ≡ true → ones (with_slot xs k x) ≡ ones xs
@@ -101,14 +105,14 @@ got_receives r k limit e = open_receives r k _ e
 
 -- ---- a packet that takes effect
 
-abbrev within : ℕ → Bool
+abbrev pub within : ℕ → Bool
 within k = nat_le 1 k && nat_le k 64
 
 -- more streams of the numbers from 1 to 64 are open
-record Widens (bs cs : List Bool) : Type 0 where
-  places : length cs ≡ length bs
-  kept : (k : ℕ) → get_or bs k false ≡ true → get_or cs k false ≡ true
-  outside : (k : ℕ) → within k ≡ false → get_or cs k false ≡ get_or bs k false
+pub record Widens (bs cs : List Bool) : Type 0 where
+  pub places : length cs ≡ length bs
+  pub kept : (k : ℕ) → get_or bs k false ≡ true → get_or cs k false ≡ true
+  pub outside : (k : ℕ) → within k ≡ false → get_or cs k false ≡ get_or bs k false
 
 widens_same : (bs cs : List Bool) → cs ≡ bs → Widens bs cs
 widens_same bs cs e = record { places = ap length e; kept = λ k h. ap (λ ds. get_or ds k false) e ∙ h; outside = λ k o. ap (λ ds. get_or ds k false) e }
@@ -221,7 +225,7 @@ paid_ones : (b : Bool) (xs : Slots Incoming) (ps : List ℕ) → ones (cond b (w
 paid_ones true xs ps = credited_ones xs ps
 paid_ones false xs ps = refl
 
-effect_opens : (r : Receiving) (p : Packet) (amount : ℕ) → fault_of r p amount ≡ None → Widens (receives r) (receives (effect r p amount))
+pub effect_opens : (r : Receiving) (p : Packet) (amount : ℕ) → fault_of r p amount ≡ None → Widens (receives r) (receives (effect r p amount))
 effect_opens r p amount none =
     let fs = frames_of p in
     let s = after_frames r fs in

@@ -1,5 +1,5 @@
 -- What bytes that came leave lawful.
-use Rattle.std.proofs.Common.{◌≡◌, ℕ, ◌+◌, ◌≤◌, Bool, true, false, cond, ◌&&◌, not, None, Some, Result, Ok, Err, refl, ap, ◌∙◌, sym, subst, List, [], ◌∷◌, length, arith, ℤ}
+use Rattle.std.proofs.Common.{◌≡◌, ◌<◌, ℕ, ◌+◌, ◌≤◌, Bool, true, false, cond, ◌&&◌, not, None, Some, Result, Ok, Err, refl, ap, ◌∙◌, sym, subst, List, [], ◌∷◌, length, arith, ℤ}
 use Rattle.std.specs.Prelude.{is_some}
 use Rattle.std.specs.List.{fold, range_with_len}
 use Rattle.st_oer.specs.Address.{is_address}
@@ -22,6 +22,7 @@ use Rattle.st_receiver.specs.Judged.{fault_of, effect}
 use Rattle.st_receiver.specs.Limits.{reply_frames}
 use Rattle.st_end.specs.State.{EndState}
 use Rattle.st_end.specs.Lawful.{IsLawful}
+use Rattle.st_end.proofs.Numbered.{effect_numbered, effect_parity}
 use Rattle.st_end.specs.Receiving.{Received, Unread, Rejects, reply_payload, f01, verdict_on, received_as, received, no_prepare, prepare_or_none, opened_at, opened_too, tells_blocked, marked_if, marked, all_marked, new_peer, told, fulfilled}
 use Rattle.st_end.proofs.Streams.{joined, taken_joined}
 use Rattle.st_end.proofs.Lawfulness.{Stays, itself, then_stays, both_open, lawful_with, all_told_stays}
@@ -110,8 +111,9 @@ fulfilled_lawful e p amount none l =
     let told_stay = all_told_stays t fs t (itself t) in
     let marked_stay = all_marked_stays (reply_frames r fs) fs (after_all_told t fs) in
     let same = marked_stay.0 ∙ told_stay.0 ∙ too_flies r e.sending in
-    let j = joined s r (sym (marked_stay.1 ∙ told_stay.1 ∙ taken_joined e.receiving e.sending p amount none (both_open e l))) in
-    record { own = l.own; peer = peer_lawful fs e.peer l.peer; kept = λ n h. ap (λ ps. is_some (flight_at ps n)) same ∙ l.kept n h; both = j.both; places = j.places }
+    let j_same = sym (marked_stay.1 ∙ told_stay.1 ∙ taken_joined e.receiving e.sending p amount none (both_open e l)) in
+    let j = joined s r j_same in
+    record { own = l.own; peer = peer_lawful fs e.peer l.peer; kept = λ n h. ap (λ ps. is_some (flight_at ps n)) same ∙ l.kept n h; both = j.both; places = j.places; numbers = effect_numbered e.receiving e.sending s p amount none (both_open e l) (sym j_same) l.numbers; parity = subst (λ n. n < 2) (sym (effect_parity e.receiving p amount)) l.parity }
 
 -- ---- what is answered
 

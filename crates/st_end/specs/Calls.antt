@@ -1,11 +1,12 @@
 -- The calls on an end's streams: what each answers and leaves. A call that is refused changes nothing. The first rule that
 -- applies refuses: the stream is not open; the connection failed; the stream is closed, or the peer closed the connection;
 -- then the call's own rule.
-use Rattle.std.specs.Prelude.{◌≡◌, ◌⊎◌, ℕ, ◌+◌, ◌*◌, ◌-◌, Bool, List, [], ◌∷◌, length, map, is_ok, is_some, true, if◌then◌else◌, Result, Ok, Err}
+use Rattle.std.specs.Prelude.{◌≡◌, ◌⊎◌, ℕ, ◌+◌, ◌*◌, ◌-◌, Bool, List, [], ◌∷◌, length, map, is_ok, is_some, true, false, if◌then◌else◌, Result, Ok, Err}
 use Rattle.std.specs.List.{range_with_len}
 use Rattle.std.specs.declared.option.Option.{Option}
 use Rattle.std.specs.declared.option.Option.TheVariants.{None, Some}
 use Rattle.std.specs.Option.{option_or}
+use Rattle.st_streams.specs.Slots.{slot}
 use Rattle.st_sender.specs.declared.error.OutboxError.{OutboxError}
 use Rattle.st_sender.specs.Sending.{Outgoing, Sending, new_outgoing, outgoing_at, with_outgoing, changed}
 use Rattle.st_sender.specs.Accepting.{after_write, after_clean, after_stream_abort, after_offer}
@@ -109,6 +110,12 @@ abbrev pub OrWants : {A : Type 0} → EndState → (defined got : Result A EndEr
 OrWants e defined got = (got ≡ defined) ⊎ ((is_ok defined.0 ≡ true) × (got ≡ (Err NoMemory, e)))
 
 -- ---- what is reported without a change
+
+-- nothing is open at a number, and the peer may not open it
+pub record IsNoStream (e : EndState) (k : ℕ) : Type 0 where
+  pub sends : outgoing_at e.sending k ≡ None
+  pub receives : slot e.receiving.streams k ≡ None
+  pub name : may_name e.receiving k ≡ false
 
 -- both directions of a stream are open
 abbrev pub has_stream : EndState → (stream : ℕ) → Bool

@@ -6,8 +6,6 @@ use Rattle.st_receiver.specs.Reading as reading
 use Rattle.st_end.specs.declared.error.EndError.{EndError}
 use Rattle.st_end.specs.declared.received.Received.{Received}
 use Rattle.st_streams.specs.declared.stream_read.StreamRead.{StreamRead}
-use Rattle.st_streams.specs.declared.totals.EndTotals.{EndTotals}
-use Rattle.st_end.specs.Totals as totals
 use Rattle.st_end.specs.Receiving as receiving
 
 abbrev pub received_seen : {X : Type 0} → Received X → receiving.Received
@@ -16,9 +14,6 @@ received_seen r = record { bytes = r.bytes.items; reason = r.reason; amount = r.
 abbrev pub read_seen : {X : Type 0} → Result (StreamRead X) EndError → Result reading.Got EndError
 read_seen (Ok got) = Ok (got_seen got)
 read_seen (Err why) = Err why
-
-abbrev pub totals_seen : EndTotals → totals.Totals
-totals_seen t = record { accepted = t.accepted; delivered = t.delivered; credited = t.credited; paid = t.paid }
 
 -- an address that was found, else another
 abbrev pub address_or : List ℕ → Option (Bor (List ℕ)) → List ℕ

@@ -6,13 +6,12 @@ use Rattle.st_sender.specs.Answering.{is_settled}
 use Rattle.st_sender.specs.Waiting.{is_waiting}
 use Rattle.st_receiver.specs.Streams.{all_delivered}
 use Rattle.st_receiver.specs.Limits.{capped}
+use Rattle.st_streams.specs.declared.totals.EndTotals.{EndTotals}
 use Rattle.st_end.specs.State.{EndState}
 
-pub record Totals : Type 0 where
-  pub accepted : ℕ  -- bytes of its writers
-  pub delivered : ℕ  -- bytes that were read
-  pub credited : ℕ  -- the amounts of Prepares that it fulfilled
-  pub paid : ℕ  -- the amounts of Prepares whose Fulfill it took
+-- the totals of an end, as st_streams has them
+abbrev pub Totals : Type 0
+Totals = EndTotals
 
 -- no total is reported past 2 ^ 64 - 1
 abbrev pub totals : EndState → Totals

@@ -1,13 +1,15 @@
 //! The calls on an end's streams.
 
-ghost use Rattle.std.specs.Prelude.{◌≡◌, ◌≢◌, ◌<◌, true, OnErr, IfSome, None};
+ghost use Rattle.std.specs.Prelude.{◌≡◌, ◌≢◌, true, OnErr, IfSome, MatchOption, None};
+ghost use Rattle.st_streams.specs.Numbers.{IsStreamNumber};
 ghost use Rattle.st_sender.specs.Sending.{outgoing_at};
 ghost use Rattle.st_end.specs.Calls as calls;
-ghost use Rattle.st_end.specs.Calls.{OrWants};
+ghost use Rattle.st_end.specs.Calls.{IsNoStream, OrWants};
 ghost use Rattle.st_end.specs.Ready.{TellsRoom};
 
 use crate::end::EndState;
 use crate::error::EndError;
+use st_streams::StreamId;
 use std::alloc::Allocator;
 
 impl<A: Allocator + Copy> EndState<A> {
@@ -25,7 +27,7 @@ impl<A: Allocator + Copy> EndState<A> {
     }
 
     /// The refusals that come before the sending side's own.
-    fn check_stream(&self, stream: u8) -> Result<(), EndError>
+    fn check_stream(&self, stream: StreamId) -> Result<(), EndError>
         ensures { result ≡ calls.answer (calls.refusal self.now stream None) }
     {
         if !self.outbox.has_stream(stream) {
@@ -39,7 +41,7 @@ impl<A: Allocator + Copy> EndState<A> {
     /// after a close or an abort of the stream; `Full` if too many bytes would be unacknowledged; `NoMemory` if
     /// memory is refused. Nothing has changed then.
     #[tactic(auto)]
-    pub fn write(&mut self, stream: u8, bytes: &[u8]) -> Result<(), EndError>
+    pub fn write(&mut self, stream: StreamId, bytes: &[u8]) -> Result<(), EndError>
         ensures answers { OrWants self.old (calls.write self.old stream bytes.now) (result, self.new) }
         ensures unchanged { OnErr result (self.new ≡ self.old) }
     {
@@ -51,7 +53,7 @@ impl<A: Allocator + Copy> EndState<A> {
     /// How many bytes `write` takes of a stream at most: a longer one is `Full`, and a shorter one is not refused but for
     /// memory. Fails as `write` does with no bytes: `NoStream`, `ConnectionFailed`, `Closed`. Does not allocate.
     #[tactic(auto, using(crate::proofs::Room::is_room, crate::proofs::Room::no_room, crate::proofs::Room::not_open))]
-    pub fn room(&self, stream: u8) -> Result<u64, EndError>
+    pub fn room(&self, stream: StreamId) -> Result<u64, EndError>
         ensures { TellsRoom self.now stream result }
     {
         self.check_stream(stream)?;
@@ -63,7 +65,7 @@ impl<A: Allocator + Copy> EndState<A> {
     /// stream is not open; `ConnectionFailed`; `Closed` if the peer closed the connection, or after a close or an
     /// abort of the stream. Nothing has changed then. Does not allocate.
     #[tactic(auto)]
-    pub fn close(&mut self, stream: u8) -> Result<(), EndError>
+    pub fn close(&mut self, stream: StreamId) -> Result<(), EndError>
         ensures answers { calls.close self.old stream ≡ (result, self.new) }
     {
         self.check_stream(stream)?;
@@ -75,7 +77,7 @@ impl<A: Allocator + Copy> EndState<A> {
     /// with the first of these that applies: `NoStream` if the stream is not open; `ConnectionFailed`; `Closed`
     /// if the peer closed the connection, or after an abort of the stream. Nothing has changed then. Does not
     /// allocate.
-    pub fn abort(&mut self, stream: u8, code: u8) -> Result<(), EndError>
+    pub fn abort(&mut self, stream: StreamId, code: u8) -> Result<(), EndError>
         requires { code ≢ 1 }
         ensures answers { calls.abort self.old stream code ≡ (result, self.new) }
     {
@@ -88,7 +90,7 @@ impl<A: Allocator + Copy> EndState<A> {
     /// `NoStream` if the stream is not open; `ConnectionFailed`; `Closed` if the peer closed the connection, or
     /// after a close or an abort of the stream; `AmountTooLarge` if all offers together would be 2^63 or more.
     /// Nothing has changed then. Does not allocate.
-    pub fn offer(&mut self, stream: u8, amount: u64) -> Result<(), EndError>
+    pub fn offer(&mut self, stream: StreamId, amount: u64) -> Result<(), EndError>
         ensures answers { calls.offer self.old stream amount ≡ (result, self.new) }
     {
         self.check_stream(stream)?;
@@ -100,25 +102,25 @@ impl<A: Allocator + Copy> EndState<A> {
     /// that the stream may receive in all. A smaller amount than before changes nothing. For a stream that the peer has
     /// not opened yet, it is kept until the stream opens. Fails with `NoStream` alone, if the stream is not open and
     /// the peer may not open one of this number. Does not allocate.
-    pub fn set_receive_max(&mut self, stream: u8, amount: u64) -> Result<(), EndError>
+    pub fn set_receive_max(&mut self, stream: StreamId, amount: u64) -> Result<(), EndError>
         ensures answers { calls.set_receive_max self.old stream amount ≡ (result, self.new) }
     {
-        if !self.intake.may_name(u64::from(stream)) {
+        if !self.intake.may_name(stream) {
             return Err(EndError::NoStream);
         }
-        self.intake.set_receive_max(u64::from(stream), amount);
+        self.intake.set_receive_max(stream, amount);
         Ok(())
     }
 
     /// The first of this end's own numbers whose stream is not open.
     #[tactic(auto, using(crate::proofs::Numbers::from_first, crate::proofs::Numbers::next_number, crate::proofs::Numbers::no_number))]
-    fn own_number(&self) -> Option<u8>
+    fn own_number(&self) -> Option<StreamId>
         ensures number { result ≡ calls.own_number self.now }
-        ensures free { IfSome result (λ k. (k < 65) × (outgoing_at self.now.sending k ≡ None)) }
+        ensures free { IfSome result (λ k. IsStreamNumber k × (outgoing_at self.now.sending k ≡ None)) }
     {
         let first = 2_u8.saturating_sub(self.intake.parity());
         for i in 0..32_u8 {
-            let stream = 2 * i + first;
+            let stream = StreamId::new(2 * i + first).unwrap();
             if !self.outbox.has_stream(stream) {
                 return Some(stream);
             }
@@ -130,7 +132,7 @@ impl<A: Allocator + Copy> EndState<A> {
     /// (RFC 0029, section 4.1). Fails with the first of these that applies: `NoStream` if no number is left;
     /// `ConnectionFailed`; `Closed` if the peer closed the connection; `NoMemory` if memory is refused. Nothing
     /// has changed then.
-    pub fn open_stream(&mut self) -> Result<u8, EndError>
+    pub fn open_stream(&mut self) -> Result<StreamId, EndError>
         ensures answers { OrWants self.old (calls.open_stream self.old) (result, self.new) }
         ensures unchanged { OnErr result (self.new ≡ self.old) }
     {
@@ -138,15 +140,24 @@ impl<A: Allocator + Copy> EndState<A> {
             return Err(EndError::NoStream);
         };
         self.check_connection()?;
-        if self.intake.open(u64::from(stream)).is_err() {
+        if self.intake.open(stream).is_err() {
             return Err(EndError::NoMemory);
         }
         self.outbox.add_stream(stream);
         Ok(stream)
     }
 
+    /// The stream of a number. `None` if no stream can have this number: each call on it would fail with `NoStream`. Does
+    /// not allocate.
+    pub fn stream_of(&self, number: u8) -> Option<StreamId>
+        ensures { MatchOption result (IsNoStream self.now number) (λ stream. stream ≡ number) }
+    {
+        let _own = &self.own;
+        StreamId::new(number)
+    }
+
     /// Whether a stream is open. Does not allocate.
-    pub fn has_stream(&self, stream: u8) -> bool
+    pub fn has_stream(&self, stream: StreamId) -> bool
         ensures { result ≡ calls.has_stream self.now stream }
     {
         self.outbox.has_stream(stream)

@@ -1,6 +1,6 @@
 //! What a fulfilled packet changes at the sending side.
 
-ghost use Rattle.std.specs.Prelude.{◌≡◌, ◌<◌, ◌∷◌, [], ℕ, List, map};
+ghost use Rattle.std.specs.Prelude.{◌≡◌, ◌∷◌, [], ℕ, List, map};
 ghost use Rattle.st_frames.specs.Frames.{frame_of};
 ghost use Rattle.st_frames.specs.Packets.{packet_of};
 ghost use Rattle.st_frames.specs.Seen.{seen};
@@ -15,14 +15,14 @@ use st_frames::{Frame, Frames, StreamPacket};
 use st_oer::is_address;
 use st_receiver::{Intake, Plan};
 use st_sender::Outbox;
+use st_streams::StreamId;
 use std::alloc::Allocator;
 
 /// A stream that is open for receiving opens for sending, if it was not open.
-fn open_one<A: Allocator + Copy>(outbox: &mut Outbox<A>, intake: &Intake<A>, stream: u8)
-    requires { stream < 65 }
+fn open_one<A: Allocator + Copy>(outbox: &mut Outbox<A>, intake: &Intake<A>, stream: StreamId)
     ensures { outbox.new ≡ receiving.opened_at intake.now.state outbox.old stream }
 {
-    if intake.has_stream(u64::from(stream)) && !outbox.has_stream(stream) {
+    if intake.has_stream(stream) && !outbox.has_stream(stream) {
         outbox.add_stream(stream);
     }
 }
@@ -33,7 +33,8 @@ pub(crate) fn open_too<A: Allocator + Copy>(outbox: &mut Outbox<A>, intake: &Int
     ensures { outbox.new ≡ receiving.opened_too intake.now.state outbox.old }
 {
     for i in 0..64_u8 {
-        open_one(outbox, intake, i + 1);
+        let stream = StreamId::new(i + 1).unwrap();
+        open_one(outbox, intake, stream);
     }
 }
 

@@ -22,7 +22,6 @@ use std::marker::Model;
 use std::sync::Arc;
 
 /// An end of a connection (RFC 0029): its sending side, its receiving side, its keys, its own address and its peer's.
-#[derive(Drop)]
 pub struct EndState<A: Allocator + Copy> {
     pub(crate) outbox: Outbox<A>,
     /// Of what is in flight.
@@ -38,6 +37,23 @@ pub struct EndState<A: Allocator + Copy> {
     pub(crate) last: Option<Failed>,
     t00: Vec<u8, A>,
     pub(crate) alloc: A,
+}
+
+// It is written out, so that a caller does not prove again how each part is dropped.
+impl<A: Allocator + Copy> Drop for EndState<A> {
+    fn drop(self) {
+        let EndState {
+            outbox: _,
+            conditions: _,
+            intake: _,
+            keys: _,
+            own: _,
+            peer: _,
+            last: _,
+            t00: _,
+            alloc: _,
+        } = self;
+    }
 }
 
 impl<A: Allocator + Copy> Model for EndState<A> {

@@ -13,6 +13,7 @@
 
 mod answer;
 mod back;
+pub mod by_number;
 mod calls;
 mod conditions;
 mod effect;
@@ -45,5 +46,5 @@ pub use st_ilp::{ErrorCode, Moment};
 pub use st_keys::Keys;
 pub use st_oer::{Rate, is_address};
 pub use st_sender::{Blocked, EndConfig};
-pub use st_streams::{EndTotals as Totals, StreamRead as Got};
+pub use st_streams::{EndTotals as Totals, StreamId, StreamRead as Got};
 pub use unsealed::Unsealed;

@@ -8,13 +8,13 @@ ghost use Rattle.st_sender.specs.Stops.{blocked_at};
 ghost use Rattle.st_end.specs.Calls.{OrWants};
 ghost use Rattle.st_end.specs.Reading as reading;
 ghost use Rattle.st_end.specs.Ready.{is_ready};
-ghost use Rattle.st_end.specs.Seen.{read_seen, totals_seen};
+ghost use Rattle.st_end.specs.Seen.{read_seen};
 ghost use Rattle.st_end.specs.Totals as totals;
 
 use crate::end::EndState;
 use crate::error::EndError;
 use st_sender::Blocked;
-use st_streams::{EndTotals, StreamRead};
+use st_streams::{EndTotals, StreamId, StreamRead};
 use std::alloc::Allocator;
 
 /// A count as it is reported.
@@ -31,7 +31,7 @@ fn capped(count: u128) -> u64
 impl<A: Allocator + Copy> EndState<A> {
     /// The totals of this end. Does not allocate.
     pub fn totals(&self) -> EndTotals
-        ensures { totals_seen result ≡ totals.totals self.now }
+        ensures { result ≡ totals.totals self.now }
     {
         EndTotals {
             accepted: capped(self.outbox.accepted()),
@@ -43,7 +43,7 @@ impl<A: Allocator + Copy> EndState<A> {
 
     /// Whether this end's own StreamClose of the stream was fulfilled: of a clean close or of an abort. Does not
     /// allocate.
-    pub fn settled(&self, stream: u8) -> bool
+    pub fn settled(&self, stream: StreamId) -> bool
         ensures { result ≡ totals.settled self.now stream }
     {
         self.outbox.is_settled(stream)
@@ -58,7 +58,7 @@ impl<A: Allocator + Copy> EndState<A> {
 
     /// Whether accepted bytes of a stream are not acknowledged by the peer, or the stream's close is not fulfilled. Does not
     /// allocate.
-    pub fn waits(&self, stream: u8) -> bool
+    pub fn waits(&self, stream: StreamId) -> bool
         ensures { result ≡ totals.waits self.now stream }
     {
         self.outbox.is_waiting(stream)
@@ -90,26 +90,26 @@ impl<A: Allocator + Copy> EndState<A> {
 
     /// Whether `read` gives anything on a stream but `Nothing`: bytes, the end, or an abort. `false` if the stream is not
     /// open. Does not allocate.
-    pub fn is_ready(&self, stream: u8) -> bool
+    pub fn is_ready(&self, stream: StreamId) -> bool
         ensures { result ≡ is_ready self.now stream }
     {
-        self.intake.is_ready(u64::from(stream))
+        self.intake.is_ready(stream)
     }
 
     /// Reads the first bytes that can be read on a stream, at most `max` of them; `max` must be at least 1. If
     /// there are none, it gives `End` once all bytes were read, else `Nothing`. After an abort it gives `Aborted` with
     /// the code. No read gives more than 65,536 bytes, a stream's window. Fails with `NoStream` if the stream is not
     /// open, and with `NoMemory` if memory is refused. Nothing has changed then.
-    pub fn read(&mut self, stream: u8, max: usize) -> Result<StreamRead<A>, EndError>
+    pub fn read(&mut self, stream: StreamId, max: usize) -> Result<StreamRead<A>, EndError>
         requires { 1 ≤ max }
         ensures answers { OrWants self.old (reading.read self.old stream max) (read_seen result, self.new) }
         ensures few { IfOk result (λ g. got_count (got_seen g) ≤ 65536) }
         ensures unchanged { OnErr result (self.new ≡ self.old) }
     {
-        if !self.intake.has_stream(u64::from(stream)) {
+        if !self.intake.has_stream(stream) {
             return Err(EndError::NoStream);
         }
-        match self.intake.read(u64::from(stream), max) {
+        match self.intake.read(stream, max) {
             Ok(got) => Ok(got),
             Err(_) => Err(EndError::NoMemory),
         }

@@ -19,7 +19,8 @@ use Rattle.st_queues.specs.declared.lanes.ReadRing.{ReadRing}
 use Rattle.st_end.specs.State.{EndState}
 use Rattle.st_hub.specs.Flow.{Flow, Inlet, Outlet, no_inlet, no_outlet, inlet_at, outlet_at, rings_of, has_end, has_last, IsSent, TiedBy}
 use Rattle.st_hub.specs.Handing.{IsKnown}
-use Rattle.st_hub.specs.Hub.{IsNew, shown_of}
+use Rattle.st_hub.specs.Hub.{IsNew}
+use Rattle.st_end.specs.Totals.{totals}
 use Rattle.st_hub.specs.Trying.{known_at, room_at}
 use Rattle.st_hub.specs.Inside.{inlet_of, outlet_of, known_of, room_of, flow_of, IsSound}
 use Rattle.st_hub.proofs.Merges.{merge_none}
@@ -120,7 +121,7 @@ none_delivered : (n : ℕ) → sum (map delivered_of (replicate n None)) ≡ 0
 none_delivered zero = refl
 none_delivered (suc n) = let h = none_delivered n in let s = sum_by-cons (λ m. m) 0 (map delivered_of (replicate n None)) in omega arith
 
-pub shown_new : (e : EndState) → IsNew e → shown_of e ≡ no_totals
+pub shown_new : (e : EndState) → IsNew e → totals e ≡ no_totals
 shown_new e new =
     let a : all_accepted e.sending.streams ≡ 0 = ap all_accepted new.sent ∙ none_accepted 65 in
     let d : all_delivered e.receiving ≡ 0 = ap (λ xs. sum (map delivered_of xs)) new.received ∙ none_delivered 65 in

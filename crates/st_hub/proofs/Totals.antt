@@ -9,7 +9,7 @@ use Rattle.st_receiver.specs.Streams.{Incoming, delivered_of}
 use Rattle.st_receiver.specs.Limits.{capped}
 use Rattle.st_queues.specs.Watching.{IsUpTo}
 use Rattle.st_end.specs.State.{EndState}
-use Rattle.st_hub.specs.Hub.{shown_of}
+use Rattle.st_end.specs.Totals.{totals}
 use Rattle.st_hub.specs.Keeping.{Keeps, Rises}
 
 accepted_rise : (xs ys : Slots Outgoing) → length ys ≡ length xs → ((k : ℕ) → accepted_of (slot xs k) ≤ accepted_of (slot ys k)) → all_accepted xs ≤ all_accepted ys
@@ -31,7 +31,7 @@ delivered_rise (x ∷ xs) (y ∷ ys) w h =
 capped_rise : (m n : ℕ) → m ≤ n → capped m ≤ capped n
 capped_rise m n h = omega arith
 
-pub totals_rise : (a b : EndState) → Rises a b → IsUpTo (shown_of a) (shown_of b)
+pub totals_rise : (a b : EndState) → Rises a b → IsUpTo (totals a) (totals b)
 totals_rise a b r = (
   capped_rise _ _ (accepted_rise a.sending.streams b.sending.streams r.sent_width r.accepted),
   capped_rise _ _ (delivered_rise a.receiving.streams b.receiving.streams r.read_width r.read),

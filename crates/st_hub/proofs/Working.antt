@@ -55,7 +55,7 @@ end_in (Sends t) = ends.Turns
 abbrev SealedAs : (iv : List ℕ) → (now : ℤ) → Sent → Type 0
 SealedAs iv now t = (a b : EndState) × Goes a iv now t.flight t.bytes b × (t.stops ≡ blocked_at b.sending.flights t.flight.sequence)
 
-module _ {K A : Type 0} (reads : K → ℤ → K → Type 0) (c d : K) (spare_iv after : Option (List ℕ)) (stream : ℕ) where
+module _ {K A : Type 0} (reads : K → ℤ → K → Type 0) (c d : K) (spare_iv after : Option (List ℕ)) (stream : Option ℕ) where
   -- a round began: the packet, of which its link and its observer are not asked yet, is sealed under the spare IV
   pub begun_sends : (t : Sent) → Begins {K = K} {A = A} reads c spare_iv stream (Sends t) d after
       → (now : ℤ) × reads c now d × (iv : List ℕ) × (spare_iv ≡ Some iv) × SealedAs iv now t × (after ≡ None)

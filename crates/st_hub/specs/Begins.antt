@@ -1,5 +1,5 @@
 -- What a worker found to do, and the outcome of its exchange.
-use Rattle.std.specs.Prelude.{◌≡◌, ◌⊎◌, ℕ, ℤ, true, false, List, Option, Some, None, Result, Ok, Err}
+use Rattle.std.specs.Prelude.{◌≡◌, ◌⊎◌, ℕ, ℤ, Bool, true, false, List, Option, Some, None, Result, Ok, Err}
 use Rattle.st_end.specs.State.{EndState}
 use Rattle.st_end.specs.Totals.{settled}
 use Rattle.st_links.specs.declared.link.LinkFault.{LinkFault}
@@ -13,16 +13,21 @@ use Rattle.st_hub.specs.declared.workers.WorkEnd.TheVariants as ends
 use Rattle.st_hub.specs.declared.workers.Begun.{Begun}
 use Rattle.st_hub.specs.declared.workers.Begun.TheVariants.{Sends, Idle, Ends}
 
+-- whether the close of a worker's stream was fulfilled, if it has one
+abbrev pub own_settled : EndState → (stream : Option ℕ) → Bool
+own_settled e None = false
+own_settled e (Some k) = settled e k
+
 -- the connection works, and the stream's close is not fulfilled: a worker continues
-pub record GoesOn (e : EndState) (stream : ℕ) : Type 0 where
+pub record GoesOn (e : EndState) (stream : Option ℕ) : Type 0 where
   pub works : e.sending.failed ≡ false
-  pub is_open : settled e stream ≡ false
+  pub is_open : own_settled e stream ≡ false
 
 -- a worker ends for what it finds at an end: the connection failed; else the stream's close is fulfilled; else the stream is
 -- stalled; or memory was refused
-abbrev pub EndsAt : EndState → (stream : ℕ) → WorkEnd → Type 0
+abbrev pub EndsAt : EndState → (stream : Option ℕ) → WorkEnd → Type 0
 EndsAt a stream ends.Failed = a.sending.failed ≡ true
-EndsAt a stream ends.Settled = (a.sending.failed ≡ false) × (settled a stream ≡ true)
+EndsAt a stream ends.Settled = (a.sending.failed ≡ false) × (own_settled a stream ≡ true)
 EndsAt a stream ends.Stalled = GoesOn a stream × IsStalled a stream
 EndsAt a stream ends.NoMemory = Unit {0}
 EndsAt a stream ends.Stopped = ⊥
@@ -30,7 +35,7 @@ EndsAt a stream ends.IvFault = ⊥
 EndsAt a stream ends.Turns = ⊥
 
 -- what a worker finds at an end. If it continues it does what a step does. If it sends nothing the end and the spare IV are as they were
-abbrev pub FindsAt : {A : Type 0} → EndState → (spare_iv : Option (List ℕ)) → (stream : ℕ) → (now : ℤ)
+abbrev pub FindsAt : {A : Type 0} → EndState → (spare_iv : Option (List ℕ)) → (stream : Option ℕ) → (now : ℤ)
     → Begun A → EndState → (after : Option (List ℕ)) → Type 0
 FindsAt {A} a spare_iv stream now (Sends t) b after = GoesOn a stream × Does {A = A} a spare_iv stream now (step.Sends t) b after
 FindsAt {A} a spare_iv stream now Idle b after = GoesOn a stream × Does {A = A} a spare_iv stream now step.Idle b after
@@ -54,7 +59,7 @@ HadMemory Idle = Unit {0}
 HadMemory (Sends t) = Unit {0}
 
 -- what a worker finds at a hub, once each ring was tried. Apart from what was pumped, the hub changes as its end does
-pub record Finds {A : Type 0} (a : Hub A) (spare_iv : Option (List ℕ)) (stream : ℕ) (now : ℤ)
+pub record Finds {A : Type 0} (a : Hub A) (spare_iv : Option (List ℕ)) (stream : Option ℕ) (now : ℤ)
     (found : Begun A) (b : Hub A) (after : Option (List ℕ)) : Type 0 where
   pub pumped : Hub A
   pub moves : Moves a pumped
@@ -63,11 +68,11 @@ pub record Finds {A : Type 0} (a : Hub A) (spare_iv : Option (List ℕ)) (stream
   pub rest : b ≡ with_core pumped b.flow.core
 
 -- what a worker finds at a hub, as it was then
-abbrev pub FindsSome : {A : Type 0} → (spare_iv : Option (List ℕ)) → (stream : ℕ) → (now : ℤ) → Begun A → (after : Option (List ℕ)) → Type 0
+abbrev pub FindsSome : {A : Type 0} → (spare_iv : Option (List ℕ)) → (stream : Option ℕ) → (now : ℤ) → Begun A → (after : Option (List ℕ)) → Type 0
 FindsSome {A} spare_iv stream now found after = (a b : Hub A) × Finds a spare_iv stream now found b after
 
 -- how a round begins: somebody asked to stop, and nothing was touched; or the worker read its clock once, and found this then at the hub
-abbrev pub Begins : {K A : Type 0} → (reads : K → ℤ → K → Type 0) → K → (spare_iv : Option (List ℕ)) → (stream : ℕ)
+abbrev pub Begins : {K A : Type 0} → (reads : K → ℤ → K → Type 0) → K → (spare_iv : Option (List ℕ)) → (stream : Option ℕ)
     → Begun A → K → (after : Option (List ℕ)) → Type 0
 Begins {K} {A} reads clock spare_iv stream found clock_after after =
     ((found ≡ Ends ends.Stopped) × (clock_after ≡ clock) × (after ≡ spare_iv))

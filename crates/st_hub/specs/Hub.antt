@@ -1,10 +1,8 @@
 -- A hub as its contracts see it.
 use Rattle.std.specs.Prelude.{◌≡◌, ℕ, ◌<◌, List, []}
 use Rattle.st_streams.specs.Slots.{no_slots}
-use Rattle.st_streams.specs.declared.totals.EndTotals.{EndTotals}
 use Rattle.st_queues.specs.declared.items.Item.{Item}
 use Rattle.st_end.specs.State.{EndState}
-use Rattle.st_end.specs.Totals.{totals}
 use Rattle.st_hub.specs.Flow.{Flow, inlet_at, outlet_at, no_inlet, no_outlet}
 use Rattle.st_hub.specs.Trying.{known_at, room_at}
 
@@ -23,10 +21,6 @@ pub record Hub (A : Type 0) : Type 0 where
   pub room : List ℕ  -- by place: for how many items a reader's ring is known to have room
   pub out : ℕ  -- how many shares are out
   pub kept : ℕ  -- what the returned shares were credited
-
--- an end's totals, as a gauge shows them
-abbrev pub shown_of : EndState → EndTotals
-shown_of e = let t = totals e in record { accepted = t.accepted; delivered = t.delivered; credited = t.credited; paid = t.paid }
 
 -- a hub over this end, of which no ring was used
 pub record IsNewHub {A : Type 0} (e : EndState) (h : Hub A) : Type 0 where

@@ -101,7 +101,7 @@ pub record Works {I L K W : Type 0}
 -- why a worker ended after `made` rounds of at most `most`, and what it took since: the source gave no IV; or all rounds were made; or
 -- somebody asked to stop; or it read its clock once more, and then found a reason at an end
 pub data EndsBy {I L K W : Type 0}
-    (reads : K → ℤ → K → Type 0) (stream : ℕ) (made most : ℕ) (spare_iv : Option (List ℕ))
+    (reads : K → ℤ → K → Type 0) (stream : Option ℕ) (made most : ℕ) (spare_iv : Option (List ℕ))
     (old : Around I L K W) (end : WorkEnd) (new : Around I L K W) : Type 0 where
   no_iv : end ≡ IvFault → spare_iv ≡ None → new ≡ record old { ivs = new.ivs } → EndsBy reads stream made most spare_iv old end new
   all_turns : end ≡ Turns → made ≡ most → new ≡ old → EndsBy reads stream made most spare_iv old end new
@@ -113,7 +113,7 @@ pub data EndsBy {I L K W : Type 0}
 pub record WorkedTo {I L K W : Type 0}
     (gives : I → List ℕ → I → Type 0) (exchanges : L → List ℕ → Result (List ℕ) LinkFault → L → Type 0)
     (reads : K → ℤ → K → Type 0) (hears : W → Event → W → Type 0)
-    (stream : ℕ) (most : ℕ) (old : Around I L K W) (end : WorkEnd) (new : Around I L K W) : Type 0 where
+    (stream : Option ℕ) (most : ℕ) (old : Around I L K W) (end : WorkEnd) (new : Around I L K W) : Type 0 where
   pub made : ℕ
   pub few : made ≤ most
   pub spare_iv : Option (List ℕ)

@@ -9,18 +9,14 @@ use crate::lanes;
 use crate::pumping::is_last;
 use st_end::EndState;
 use st_queues::{HubName, StreamWriter, WRITERS, WriteRing};
+use st_streams::StreamId;
 use std::alloc::Allocator;
 
-/// Whether a stream of this number is open.
-pub(crate) fn is_stream<A: Allocator + Copy>(core: &EndState<A>, stream: u8) -> bool
+/// Whether a stream is open.
+pub(crate) fn is_stream<A: Allocator + Copy>(core: &EndState<A>, stream: StreamId) -> bool
     ensures { MatchBool result (IsStream core.now stream) (¬ (IsStream core.now stream)) }
 {
-    if stream == 0 {
-        return false;
-    }
-    if stream > 64 {
-        return false;
-    }
+    let _ = stream.number();
     core.has_stream(stream)
 }
 

@@ -19,7 +19,6 @@ const SPACE: u64 = 50;
 ///
 /// A thread that wrote to a ring, read from one, or asked the workers to stop is to call `wake_one` or `wake_all`: a
 /// worker with nothing to send sleeps until then, or until its rest is over.
-#[derive(Drop)]
 pub struct Bench<N: HubName<A>, A: Allocator + Copy> {
     hub: Mutex<HubState<N, A>>,
     /// The pause between two tries of all workers, while the last exchange failed for now.
@@ -31,6 +30,20 @@ pub struct Bench<N: HubName<A>, A: Allocator + Copy> {
     pub(crate) room: Condvar,
     // How many workers found nothing to do and are about to sleep, or sleep.
     pub(crate) idle: AtomicU64,
+}
+
+// It is written out, so that a caller does not prove again how each part is dropped.
+impl<N: HubName<A>, A: Allocator + Copy> Drop for Bench<N, A> {
+    fn drop(self) {
+        let Bench {
+            hub: _,
+            pause: _,
+            gate: _,
+            woken: _,
+            room: _,
+            idle: _,
+        } = self;
+    }
 }
 
 impl<N: HubName<A>, A: Allocator + Copy> Bench<N, A> {
@@ -62,7 +75,15 @@ impl<N: HubName<A>, A: Allocator + Copy> Bench<N, A> {
 
     /// Gives the hub, once no thread uses the bench any more.
     pub fn into_hub(self) -> HubState<N, A> {
-        self.hub.into_inner()
+        let Bench {
+            hub,
+            pause: _,
+            gate: _,
+            woken: _,
+            room: _,
+            idle: _,
+        } = self;
+        hub.into_inner()
     }
 
     /// Waits until each worker that found nothing to do sleeps.

@@ -4,7 +4,6 @@ ghost use Rattle.std.specs.Prelude.{◌≡◌, ◌≢◌, ℕ, ◌++◌, length,
 ghost use Rattle.st_end.specs.Calls as calls;
 ghost use Rattle.st_end.specs.Calls.{OrWants};
 ghost use Rattle.st_end.specs.Receiving.{t00_text};
-ghost use Rattle.st_end.specs.Seen.{totals_seen};
 ghost use Rattle.st_end.specs.Totals as totals;
 ghost use Rattle.st_queues.specs.Lanes.{ring_at};
 ghost use Rattle.st_queues.specs.Watching.{IsUpTo, nothing_seen};
@@ -12,7 +11,7 @@ ghost use Rattle.st_hub.specs.Flow.{inlet_at, outlet_at, Tied};
 ghost use Rattle.st_hub.specs.Handing.{IsTaken, number_in, HandsOut, TakesLeft, AddsWriter, RefusesWriter};
 ghost use Rattle.st_hub.specs.Steps.{Flows, Continues};
 ghost use Rattle.st_hub.specs.Trying.{known_at, HadMemory, AllTried};
-ghost use Rattle.st_hub.specs.Hub.{IsNew, IsNewHub, shown_of, with_core};
+ghost use Rattle.st_hub.specs.Hub.{IsNew, IsNewHub, with_core};
 ghost use Rattle.st_hub.specs.declared.error.HubError.TheVariants.{NoMemory};
 
 use crate::error::HubError;
@@ -20,7 +19,7 @@ use crate::pumping::Pumped;
 use crate::streams::Streams;
 use st_end::{EndError, EndState, Failed};
 use st_queues::{Gauge, GaugeSeat, HubName, HubSeat, Named, Rings, StreamReader, StreamWriter};
-use st_streams::EndTotals;
+use st_streams::{EndTotals, StreamId};
 use std::alloc::Allocator;
 use std::marker::Model;
 use std::sync::ledger::{Blank, Book, Share};
@@ -28,7 +27,6 @@ use std::sync::ledger::{Blank, Book, Share};
 /// An end of a connection with the rings of its streams, a gauge of its totals and the ledger of its credit: the value
 /// of one lock. Contracts see it as the end, the items taken from and put into each ring, what is known to be in each
 /// writer's ring, the room that is known in each reader's ring, and the outstanding shares.
-#[derive(Drop)]
 pub struct HubState<N: HubName<A>, A: Allocator + Copy> {
     pub(crate) streams: Streams<N, A>,
     pub(crate) gauge: Gauge<N, A>,
@@ -40,11 +38,26 @@ pub struct HubState<N: HubName<A>, A: Allocator + Copy> {
     pub(crate) out: u64,
 }
 
+// It is written out, so that a caller does not prove again how each part is dropped.
+impl<N: HubName<A>, A: Allocator + Copy> Drop for HubState<N, A> {
+    fn drop(self) {
+        let HubState {
+            streams: _,
+            gauge: _,
+            seat: _,
+            credit: _,
+            spare: _,
+            out: _,
+        } = self;
+    }
+}
+
 impl<N: HubName<A>, A: Allocator + Copy> Model for HubState<N, A> {
     ghost use Rattle.std.specs.Prelude.{◌≡◌, ◌+◌, ◌<◌};
     ghost use Rattle.std.specs.Coded.{codes};
     ghost use Rattle.std.specs.FinMap as map;
-    ghost use Rattle.st_hub.specs.Hub.{Hub, shown_of};
+    ghost use Rattle.st_end.specs.Totals.{totals};
+    ghost use Rattle.st_hub.specs.Hub.{Hub};
 
     ghost Value = { Hub A };
 
@@ -52,7 +65,7 @@ impl<N: HubName<A>, A: Allocator + Copy> Model for HubState<N, A> {
 
     ghost view = { λ h. record { flow = h.streams.flow; known = h.streams.known; room = h.streams.room; out = h.out; kept = h.spare.amount } };
 
-    ghost invariant = { λ h. (h.seat ≡ shown_of h.streams.flow.core) × (h.credit.total ≡ h.streams.flow.core.receiving.credit)
+    ghost invariant = { λ h. (h.seat ≡ totals h.streams.flow.core) × (h.credit.total ≡ h.streams.flow.core.receiving.credit)
         × (h.spare.parts + h.out ≡ 64) × (h.out < 64) × (N.parts ≡ 64) };
 }
 
@@ -62,8 +75,8 @@ pub(crate) fn publish<N: HubName<A>, A: Allocator + Copy>(
     seat: &mut HubSeat<N, A>,
     streams: &Streams<N, A>,
 )
-    requires { IsUpTo seat.old (shown_of streams.now.flow.core) }
-    ensures { seat.new ≡ shown_of streams.now.flow.core }
+    requires { IsUpTo seat.old (totals.totals streams.now.flow.core) }
+    ensures { seat.new ≡ totals.totals streams.now.flow.core }
 {
     gauge.publish(seat, streams.totals());
 }
@@ -120,7 +133,9 @@ impl<N: HubName<A>, A: Allocator + Copy> HubState<N, A> {
     ///
     /// Fails, in this order: `NoStream` after the end's last stream; `ConnectionFailed`; `Closed` if the peer closed
     /// the connection; `NoMemory` if memory is refused. At an error no stream is opened.
-    pub fn open_stream(&mut self) -> Result<(u8, StreamWriter<N, A>, StreamReader<N, A>), EndError>
+    pub fn open_stream(
+        &mut self,
+    ) -> Result<(StreamId, StreamWriter<N, A>, StreamReader<N, A>), EndError>
         ensures answers { OrWants self.old.flow.core (calls.open_stream self.old.flow.core) (number_in result, self.new.flow.core) }
         ensures handed { IfOk result (λ x. (s : ℕ) × HandsOut self.old.flow self.new.flow x.0 x.1 x.2 s) }
         ensures unchanged { OnErr result (self.new.flow ≡ self.old.flow) }
@@ -139,7 +154,7 @@ impl<N: HubName<A>, A: Allocator + Copy> HubState<N, A> {
 
     /// Returns the number, the first writer and the reader of the lowest open stream whose reader nobody took yet. Such
     /// a stream is one that the peer opened. Returns `None` only if there is none. Does not allocate.
-    pub fn take_stream(&mut self) -> Option<(u8, StreamWriter<N, A>, StreamReader<N, A>)>
+    pub fn take_stream(&mut self) -> Option<(StreamId, StreamWriter<N, A>, StreamReader<N, A>)>
         ensures taken { IfSome result (λ x. (s : ℕ) × TakesLeft self.old.flow self.new.flow x.0 x.1 x.2 s) }
         ensures none { IfNone result (((s : ℕ) → s < 64 → IsTaken self.old.flow s) × (self.new.flow ≡ self.old.flow)) }
         ensures rest { (self.new.out ≡ self.old.out) × (self.new.kept ≡ self.old.kept) }
@@ -152,7 +167,7 @@ impl<N: HubName<A>, A: Allocator + Copy> HubState<N, A> {
     ///
     /// Fails, in this order: `NoStream` if no stream of this number is open; `EightWriters` if all writers were handed
     /// out; `WriterTooLate` if each writer that was handed out has ended.
-    pub fn add_writer(&mut self, stream: u8) -> Result<StreamWriter<N, A>, HubError>
+    pub fn add_writer(&mut self, stream: StreamId) -> Result<StreamWriter<N, A>, HubError>
         ensures added { IfOk result (λ w. (j : ℕ) × AddsWriter self.old.flow self.new.flow stream w j) }
         ensures refused { IfErr result (λ e. (self.new.flow ≡ self.old.flow) × RefusesWriter self.old.flow stream e) }
         ensures rest { (self.new.out ≡ self.old.out) × (self.new.kept ≡ self.old.kept) }
@@ -164,7 +179,7 @@ impl<N: HubName<A>, A: Allocator + Copy> HubState<N, A> {
     ///
     /// Fails as `EndState::offer` does, in this order: `NoStream`; `ConnectionFailed`; `Closed` if the peer closed the
     /// connection or the stream was closed or aborted; `AmountTooLarge` if all offers would come to 2^63 or more.
-    pub fn offer(&mut self, stream: u8, amount: u64) -> Result<(), EndError>
+    pub fn offer(&mut self, stream: StreamId, amount: u64) -> Result<(), EndError>
         ensures answers { calls.offer self.old.flow.core stream amount ≡ (result, self.new.flow.core) }
         ensures rest { self.new ≡ with_core self.old self.new.flow.core }
     {
@@ -184,7 +199,7 @@ impl<N: HubName<A>, A: Allocator + Copy> HubState<N, A> {
     ///
     /// Fails with `NoStream`, as `EndState::set_receive_max` does, for a number that is neither open nor one of the
     /// peer's.
-    pub fn set_receive_max(&mut self, stream: u8, amount: u64) -> Result<(), EndError>
+    pub fn set_receive_max(&mut self, stream: StreamId, amount: u64) -> Result<(), EndError>
         ensures answers { calls.set_receive_max self.old.flow.core stream amount ≡ (result, self.new.flow.core) }
         ensures rest { self.new ≡ with_core self.old self.new.flow.core }
     {
@@ -257,13 +272,13 @@ impl<N: HubName<A>, A: Allocator + Copy> HubState<N, A> {
 
     /// The end's totals so far: bytes accepted and delivered, units credited and paid. Does not allocate.
     pub fn totals(&self) -> EndTotals
-        ensures { totals_seen result ≡ totals.totals self.now.flow.core }
+        ensures { result ≡ totals.totals self.now.flow.core }
     {
         self.streams.core().totals()
     }
 
     /// Whether this end's own StreamClose of a stream (RFC 0029) was fulfilled. Does not allocate.
-    pub fn settled(&self, stream: u8) -> bool
+    pub fn settled(&self, stream: StreamId) -> bool
         ensures { result ≡ totals.settled self.now.flow.core stream }
     {
         self.streams.core().settled(stream)

@@ -6,7 +6,7 @@ ghost use Rattle.st_hub.specs.Flow.{inlet_at, outlet_at, writer_out, reader_out}
 ghost use Rattle.st_hub.specs.Handing.{IsFreshWriter, IsFreshReader};
 ghost use Rattle.st_hub.specs.Inside.{inlet_of, outlet_of, stands_at, AllLanes, AllReadLanes};
 
-use st_end::EndState;
+use st_end::{EndState, by_number};
 use st_queues::{HubName, ReadRing, StreamReader, StreamWriter, WriteRing};
 use std::alloc::Allocator;
 
@@ -90,7 +90,7 @@ fn is_left<A: Allocator + Copy>(core: &EndState<A>, reads: &Vec<ReadRing<A>, A>,
     requires { (length reads.now.items ≡ 64) × (place < 64) }
     ensures { result ≡ (has_stream core.now (place + 1) && not (outlet_at (map outlet_of reads.now.items) place).out) }
 {
-    core.has_stream(place + 1) && is_here(reads, place)
+    by_number::has_stream(core, place + 1) && is_here(reads, place)
 }
 
 // Whether the reader of a stream is still here.

@@ -11,7 +11,7 @@ ghost use Rattle.st_hub.specs.Moving.{ClosesIf, AfterTake, AfterGive};
 ghost use Rattle.st_hub.specs.Trying.{HadMemory, Longer, Stops, Fuller, StopsGiving, Found, Tried, TriedRead, AllTried};
 ghost use Rattle.st_hub.specs.Inside.{inlet_of, known_of, room_of, flow_of, FlowsIn, FlowsOut, TriesWriters, TriesReader, taken_at, stands_at, put_at, free_at, Grow, Fill, AllLanes, AllReadLanes};
 
-use st_end::{EndError, EndState};
+use st_end::{EndError, EndState, by_number};
 use st_queues::{Delivery, HubName, Item, ROOM, ReadRing, STREAMS, WRITERS, WriteRing};
 use st_receiver::Got;
 use std::alloc::Allocator;
@@ -50,7 +50,11 @@ fn close_last<A: Allocator + Copy>(
     ensures refused { OnErr result (core.new ≡ core.old) }
     ensures why { IfErr result (λ e. calls.close core.new stream ≡ (Err e, core.new)) }
 {
-    if is_last { core.close(stream) } else { Ok(()) }
+    if is_last {
+        by_number::close(core, stream)
+    } else {
+        Ok(())
+    }
 }
 
 // Moves the first item of a ring to the end, if the end accepts it.
@@ -72,7 +76,7 @@ fn take_first<A: Allocator + Copy>(
         return Pumped::Stuck;
     }
     match end.first() {
-        Item::Chunk(chunk) => match core.write(stream, chunk) {
+        Item::Chunk(chunk) => match by_number::write(core, stream, chunk) {
             Ok(()) => {
                 end.drop_first();
                 Pumped::Moved
@@ -110,7 +114,7 @@ fn give_first<A: Allocator + Copy>(
     if *over || end.room() == 0 {
         return Pumped::Stuck;
     }
-    match core.read(stream, READ_LIMIT) {
+    match by_number::read(core, stream, READ_LIMIT) {
         Ok(Got::Bytes(bytes)) => {
             end.put(Delivery::Bytes(bytes));
             Pumped::Moved
@@ -287,7 +291,7 @@ fn pump_stream<N: HubName<A>, A: Allocator + Copy>(
         → TriedRead (flow_of core.old writes.old.items reads.old.items) (map room_of reads.old.items) place
         (flow_of core.new writes.new.items reads.new.items) }
 {
-    if !core.has_stream(place as u8 + 1) {
+    if !by_number::has_stream(core, place as u8 + 1) {
         return Pumped::Nothing;
     }
     if let Pumped::NoMemory = take_stream::<N, A>(core, writes, place) {

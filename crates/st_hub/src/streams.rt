@@ -8,6 +8,7 @@ ghost use Rattle.st_end.specs.Sending.{GoesNone};
 ghost use Rattle.st_end.specs.Unsealed.{GoesUnsealed, known};
 ghost use Rattle.st_end.specs.Answers.{ended, pays};
 ghost use Rattle.st_end.specs.Receiving.{received};
+ghost use Rattle.st_end.specs.Totals as totals;
 ghost use Rattle.st_end.specs.Seen.{received_seen};
 ghost use Rattle.st_links.specs.Outcomes.{outcome_seen};
 ghost use Rattle.st_queues.specs.Lanes.{AllNamed, AllNamedReads};
@@ -15,7 +16,7 @@ ghost use Rattle.st_hub.specs.Flow.{inlet_at, outlet_at, Tied};
 ghost use Rattle.st_hub.specs.Handing.{IsTaken, number_in, HandsOut, TakesLeft, AddsWriter, RefusesWriter};
 ghost use Rattle.st_hub.specs.Steps.{Flows, Continues};
 ghost use Rattle.st_hub.specs.Keeping.{Keeps, Rises};
-ghost use Rattle.st_hub.specs.Hub.{IsNew, shown_of};
+ghost use Rattle.st_hub.specs.Hub.{IsNew};
 ghost use Rattle.st_hub.specs.Trying.{with_end, known_at, HadMemory, AllTried};
 ghost use Rattle.st_hub.specs.Turns.{credited_by};
 ghost use Rattle.st_hub.specs.Inside.{beside_of};
@@ -29,13 +30,12 @@ use st_end::{EndError, EndState, Flight, Received, Unsealed};
 use st_ilp::Moment;
 use st_links::Outcome;
 use st_queues::{HubName, ReadRing, StreamReader, StreamWriter, WriteRing};
-use st_streams::EndTotals;
+use st_streams::{EndTotals, StreamId};
 use std::alloc::Allocator;
 use std::marker::{Model, PhantomData};
 
 /// An end with its rings. Contracts see it as the end, what was removed from each writer's ring and what was put into
 /// each reader's, what is known to be in each writer's ring, and the room known in each reader's.
-#[derive(Drop)]
 pub(crate) struct Streams<N: HubName<A>, A: Allocator + Copy> {
     core: EndState<A>,
     // By ring number: writer j of the stream at place s is at 8 s + j.
@@ -44,6 +44,19 @@ pub(crate) struct Streams<N: HubName<A>, A: Allocator + Copy> {
     reads: Vec<ReadRing<A>, A>,
     alloc: A,
     of: PhantomData<N>,
+}
+
+// It is written out, so that a caller does not prove again how each part is dropped.
+impl<N: HubName<A>, A: Allocator + Copy> Drop for Streams<N, A> {
+    fn drop(self) {
+        let Streams {
+            core: _,
+            writes: _,
+            reads: _,
+            alloc: _,
+            of: _,
+        } = self;
+    }
 }
 
 impl<N: HubName<A>, A: Allocator + Copy> Model for Streams<N, A> {
@@ -85,7 +98,7 @@ impl<N: HubName<A>, A: Allocator + Copy> Streams<N, A> {
 
     /// What the end did so far.
     pub(crate) fn totals(&self) -> EndTotals
-        ensures { result ≡ shown_of self.now.flow.core }
+        ensures { result ≡ totals.totals self.now.flow.core }
     {
         self.core.totals()
     }
@@ -98,7 +111,7 @@ impl<N: HubName<A>, A: Allocator + Copy> Streams<N, A> {
     }
 
     /// The end's `offer`.
-    pub(crate) fn offer(&mut self, stream: u8, amount: u64) -> Result<(), EndError>
+    pub(crate) fn offer(&mut self, stream: StreamId, amount: u64) -> Result<(), EndError>
         ensures answers { calls.offer self.old.flow.core stream amount ≡ (result, self.new.flow.core) }
         ensures keeps { Keeps 0 self.old.flow.core self.new.flow.core }
         ensures rest { self.new ≡ with_end self.old self.new.flow.core }
@@ -107,7 +120,7 @@ impl<N: HubName<A>, A: Allocator + Copy> Streams<N, A> {
     }
 
     /// The end's `set_receive_max`.
-    pub(crate) fn set_receive_max(&mut self, stream: u8, amount: u64) -> Result<(), EndError>
+    pub(crate) fn set_receive_max(&mut self, stream: StreamId, amount: u64) -> Result<(), EndError>
         ensures answers { calls.set_receive_max self.old.flow.core stream amount ≡ (result, self.new.flow.core) }
         ensures keeps { Keeps 0 self.old.flow.core self.new.flow.core }
         ensures rest { self.new ≡ with_end self.old self.new.flow.core }
@@ -165,7 +178,7 @@ impl<N: HubName<A>, A: Allocator + Copy> Streams<N, A> {
     /// Opens a stream at the end, and hands out its first writer and its reader.
     pub(crate) fn open_stream(
         &mut self,
-    ) -> Result<(u8, StreamWriter<N, A>, StreamReader<N, A>), EndError>
+    ) -> Result<(StreamId, StreamWriter<N, A>, StreamReader<N, A>), EndError>
         ensures answers { OrWants self.old.flow.core (calls.open_stream self.old.flow.core) (number_in result, self.new.flow.core) }
         ensures handed { IfOk result (λ x. (s : ℕ) × HandsOut self.old.flow self.new.flow x.0 x.1 x.2 s) }
         ensures unchanged { OnErr result (self.new ≡ self.old) }
@@ -179,13 +192,15 @@ impl<N: HubName<A>, A: Allocator + Copy> Streams<N, A> {
             ..
         } = self;
         let stream = core.open_stream()?;
-        let place = usize::from(stream) - 1;
+        let place = stream.place() - 1;
         let (writer, reader) = ends::<N, A>(*alloc, writes, reads, place);
         Ok((stream, writer, reader))
     }
 
     /// Hands out the ends of the lowest stream that is open and whose ends nobody has.
-    pub(crate) fn take_stream(&mut self) -> Option<(u8, StreamWriter<N, A>, StreamReader<N, A>)>
+    pub(crate) fn take_stream(
+        &mut self,
+    ) -> Option<(StreamId, StreamWriter<N, A>, StreamReader<N, A>)>
         ensures taken { IfSome result (λ x. (s : ℕ) × TakesLeft self.old.flow self.new.flow x.0 x.1 x.2 s) }
         ensures none { IfNone result (((s : ℕ) → s < 64 → IsTaken self.old.flow s) × (self.new ≡ self.old)) }
     {
@@ -198,11 +213,12 @@ impl<N: HubName<A>, A: Allocator + Copy> Streams<N, A> {
         } = self;
         let place = first_left(core, reads)?;
         let (writer, reader) = ends::<N, A>(*alloc, writes, reads, usize::from(place));
-        Some((place + 1, writer, reader))
+        let stream = StreamId::new(place + 1).unwrap();
+        Some((stream, writer, reader))
     }
 
     /// Hands out a further writer of an open stream.
-    pub(crate) fn add_writer(&mut self, stream: u8) -> Result<StreamWriter<N, A>, HubError>
+    pub(crate) fn add_writer(&mut self, stream: StreamId) -> Result<StreamWriter<N, A>, HubError>
         ensures added { IfOk result (λ w. (j : ℕ) × AddsWriter self.old.flow self.new.flow stream w j) }
         ensures refused { IfErr result (λ e. (self.new ≡ self.old) × RefusesWriter self.old.flow stream e) }
     {
@@ -215,7 +231,7 @@ impl<N: HubName<A>, A: Allocator + Copy> Streams<N, A> {
         if !is_stream(core, stream) {
             return Err(HubError::NoStream);
         }
-        let place = usize::from(stream) - 1;
+        let place = stream.place() - 1;
         let Some(further) = first_unused(writes, place) else {
             return Err(HubError::EightWriters);
         };

@@ -10,18 +10,19 @@ ghost use Rattle.st_end.specs.Answers.{ended, pays};
 ghost use Rattle.st_end.specs.Receiving.{received};
 ghost use Rattle.st_end.specs.Seen.{received_seen};
 ghost use Rattle.st_hub.specs.Hub.{with_core};
-ghost use Rattle.st_hub.specs.Stalls.{Does, IsStalled};
+ghost use Rattle.st_hub.specs.Stalls.{Does, IsStalled, own_waits};
 ghost use Rattle.st_hub.specs.Turns.{credited_by, IsExpiryOf};
 ghost use Rattle.st_hub.specs.declared.error.HubError.TheVariants.{NoShareLeft, Stranger, MissingShare, NoMemory};
 
 use crate::error::HubError;
 use crate::hub::{HubState, publish};
 use crate::unsealed::{UnsealedTurn, limit_of, turn_at};
-use st_end::{Flight, Received};
+use st_end::{EndState, Flight, Received};
 use st_ilp::Moment;
 use st_links::Outcome;
 use st_queues::HubName;
 use st_sender::Blocked;
+use st_streams::StreamId;
 use std::alloc::Allocator;
 use std::marker::Model;
 use std::sync::ledger::{Ledger, Share};
@@ -121,6 +122,16 @@ impl<N: Ledger> Model for CreditShare<N> {
     ghost invariant = { λ s. s.share.parts ≡ 1 };
 }
 
+/// Whether a worker's stream waits, if it has one.
+fn waits<A: Allocator + Copy>(core: &EndState<A>, stream: Option<StreamId>) -> bool
+    ensures { result ≡ own_waits core.now stream }
+{
+    match stream {
+        Some(stream) => core.waits(stream),
+        None => false,
+    }
+}
+
 impl<N: HubName<A>, A: Allocator + Copy> HubState<N, A> {
     /// Gives a share of the credit for one thread that receives Prepares, with nothing credited. Does not allocate.
     ///
@@ -210,24 +221,24 @@ impl<N: HubName<A>, A: Allocator + Copy> HubState<N, A> {
 
     /// Whether nothing can be sent any more of a stream, unless the peer sends a packet of its own. It is to be called
     /// when `take_unsealed` gave `None`. Does not allocate.
-    fn is_stalled(&self, stream: u8) -> bool
+    fn is_stalled(&self, stream: Option<StreamId>) -> bool
         requires { GoesNone self.now.flow.core }
         ensures { MatchBool result (IsStalled self.now.flow.core stream) (¬ (IsStalled self.now.flow.core stream)) }
     {
         let core = self.streams.core();
-        core.in_flight() == 0 && core.waits(stream)
+        core.in_flight() == 0 && waits(core, stream)
     }
 
     /// Makes one step of a worker at the time `now`. It returns the next Prepare as `take_unsealed` does, under the IV in
     /// `spare_iv`, which is to be there; that IV is then used up, and `spare_iv` is `None`. If nothing can be sent, `spare_iv`
     /// keeps its IV, and the step is `Stalled` exactly if nothing is in flight and `stream` still waits: bytes that it
-    /// accepted are not acknowledged, or its close is not fulfilled. `stream` 0 never waits.
+    /// accepted are not acknowledged, or its close is not fulfilled. Without a `stream` no step is `Stalled`.
     ///
     /// Fails with `NoMemory` if memory is refused, and for no other reason; then nothing has changed.
     pub fn step(
         &mut self,
         spare_iv: &mut Option<[u8; 12]>,
-        stream: u8,
+        stream: Option<StreamId>,
         now: Moment,
     ) -> Result<Step<A>, HubError>
         requires spare_iv { is_some spare_iv.old ≡ true }

@@ -3,7 +3,7 @@
 ghost use Rattle.std.specs.Prelude.{◌≡◌, ℕ, List, true, is_some, IfSome, MatchBool, None, ⊤};
 ghost use Rattle.st_links.specs.Outcomes.{outcome_seen};
 ghost use Rattle.st_end.specs.State.{EndState};
-ghost use Rattle.st_hub.specs.Begins.{Begins, FindsAt, Finds, FindsSome, Exchanged};
+ghost use Rattle.st_hub.specs.Begins.{Begins, FindsAt, Finds, FindsSome, Exchanged, own_settled};
 ghost use Rattle.st_hub.specs.Causes.{cause_of};
 ghost use Rattle.st_hub.specs.Hub.{with_core};
 ghost use Rattle.st_hub.specs.Seen.{cause_seen};
@@ -20,6 +20,7 @@ use st_devices::Counted;
 use st_ilp::Moment;
 use st_links::{Clock, Link, Outcome};
 use st_queues::{Gauge, GaugeSeat, HubName};
+use st_streams::StreamId;
 use std::alloc::Allocator;
 use std::sync::atomic::Ordering;
 use std::sync::{MutexGuard, Wait};
@@ -69,9 +70,9 @@ pub struct Worker<'w, N: HubName<A>, A: Allocator + Copy, L, I, K, W> {
     pub gauge: &'w Gauge<N, A>,
     /// Its seat at the gauge.
     pub seat: &'w mut GaugeSeat<N, A>,
-    /// The stream with whose end it ends, 1 to 64: once the stream's close is fulfilled, or if nothing more of it can be
-    /// sent. With 0 it ends for neither reason.
-    pub stream: u8,
+    /// The stream with whose end it ends: once the stream's close is fulfilled, or if nothing more of it can be sent. With
+    /// `None` it ends for neither reason.
+    pub stream: Option<StreamId>,
     /// For how long it sleeps at most if it has nothing to send and nobody wakes it.
     pub rest: Duration,
     /// The most rounds that it makes.
@@ -85,26 +86,40 @@ enum Begun<A: Allocator + Copy> {
     Ends(WorkEnd),
 }
 
-// Each function here that takes the lock lets it go before it returns, so that no exchange is made under it.
+// Each function here that takes the lock lets it go before it returns, so that no exchange is made under it. The stream of a
+// worker is lent to them: a struct in an `Option` that is passed on by value twice is not covered by the borrow checker.
+
+/// Whether the close of a worker's stream was fulfilled, if it has one.
+fn is_settled<N: HubName<A>, A: Allocator + Copy>(
+    state: &HubState<N, A>,
+    stream: Option<StreamId>,
+) -> bool
+    ensures { result ≡ own_settled state.now.flow.core stream }
+{
+    match stream {
+        Some(stream) => state.settled(stream),
+        None => false,
+    }
+}
 
 /// What a worker does with a hub of which all was pumped.
 fn find<N: HubName<A>, A: Allocator + Copy>(
     state: &mut HubState<N, A>,
     spare_iv: &mut Option<[u8; 12]>,
-    stream: u8,
+    stream: &Option<StreamId>,
     now: Moment,
 ) -> Begun<A>
     requires { is_some spare_iv.old ≡ true }
-    ensures finds { FindsAt state.old.flow.core spare_iv.old stream now result state.new.flow.core spare_iv.new }
+    ensures finds { FindsAt state.old.flow.core spare_iv.old stream.now now result state.new.flow.core spare_iv.new }
     ensures rest { state.new ≡ with_core state.old state.new.flow.core }
 {
     if state.is_failed() {
         return Begun::Ends(WorkEnd::Failed);
     }
-    if state.settled(stream) {
+    if is_settled(state, *stream) {
         return Begun::Ends(WorkEnd::Settled);
     }
-    match state.step(spare_iv, stream, now) {
+    match state.step(spare_iv, *stream, now) {
         Ok(Step::Sends(turn)) => Begun::Sends(turn),
         Ok(Step::Idle) => Begun::Idle,
         Ok(Step::Stalled) => Begun::Ends(WorkEnd::Stalled),
@@ -117,11 +132,11 @@ fn look<N: HubName<A>, A: Allocator + Copy>(
     bench: &Bench<N, A>,
     state: &mut HubState<N, A>,
     spare_iv: &mut Option<[u8; 12]>,
-    stream: u8,
+    stream: &Option<StreamId>,
     now: Moment,
 ) -> Begun<A>
     requires { is_some spare_iv.old ≡ true }
-    ensures { Finds state.old spare_iv.old stream now result state.new spare_iv.new }
+    ensures { Finds state.old spare_iv.old stream.now now result state.new spare_iv.new }
 {
     let before = state.totals().accepted;
     let pumped = state.pump();
@@ -140,12 +155,12 @@ fn look_again<N: HubName<A>, A: Allocator + Copy, R: Wait + std::time::Clock>(
     bench: &Bench<N, A>,
     state: MutexGuard<'_, HubState<N, A>>,
     spare_iv: &mut Option<[u8; 12]>,
-    stream: u8,
+    stream: &Option<StreamId>,
     now: Moment,
     rest: Duration,
 ) -> Begun<A>
     requires { is_some spare_iv.old ≡ true }
-    ensures { FindsSome spare_iv.old stream now result spare_iv.new }
+    ensures { FindsSome spare_iv.old stream.now now result spare_iv.new }
 {
     let mut state = state;
     bench.idle.fetch_add(1, Ordering::SeqCst);
@@ -185,12 +200,12 @@ fn begin<N: HubName<A>, A: Allocator + Copy, K: Clock, R: Wait + std::time::Cloc
     gauge: &Gauge<N, A>,
     seat: &mut GaugeSeat<N, A>,
     spare_iv: &mut Option<[u8; 12]>,
-    stream: u8,
+    stream: &Option<StreamId>,
     clock: &mut K,
     rest: Duration,
 ) -> Begun<A>
     requires { is_some spare_iv.old ≡ true }
-    ensures { Begins K.reads clock.old spare_iv.old stream result clock.new spare_iv.new }
+    ensures { Begins K.reads clock.old spare_iv.old stream.now result clock.new spare_iv.new }
 {
     let Some(mut state) = pass_gate(rt, bench, gauge, seat) else {
         return Begun::Ends(WorkEnd::Stopped);
@@ -297,7 +312,7 @@ fn make_turns<
         if !fill(ivs, &mut spare_iv) {
             return WorkEnd::IvFault;
         }
-        match begin(rt, bench, gauge, seat, &mut spare_iv, stream, clock, rest) {
+        match begin(rt, bench, gauge, seat, &mut spare_iv, &stream, clock, rest) {
             Begun::Sends(unsealed) => {
                 tell_limit(watch, &unsealed);
                 let turn = unsealed.seal();

@@ -27,12 +27,23 @@ const WRITE_RINGS: u16 = 512;
 
 /// The rings and the gauge of a hub that has no name yet. Contracts see them as the identities of the rings and the
 /// gauge.
-#[derive(Drop)]
 pub struct Rings<A: Allocator + Copy> {
     writes: Vec<WriteRing<A>, A>,
     reads: Vec<ReadRing<A>, A>,
     gauge: Opened<A>,
     alloc: A,
+}
+
+// It is written out, so that a caller does not prove again how each part is dropped.
+impl<A: Allocator + Copy> Drop for Rings<A> {
+    fn drop(self) {
+        let Rings {
+            writes: _,
+            reads: _,
+            gauge: _,
+            alloc: _,
+        } = self;
+    }
 }
 
 impl<A: Allocator + Copy> Model for Rings<A> {

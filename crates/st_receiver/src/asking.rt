@@ -10,7 +10,7 @@ use crate::apply::drawn;
 use crate::incoming::Incoming;
 use crate::intake::Intake;
 use crate::reason::Reason;
-use st_streams::StreamRead;
+use st_streams::{StreamId, StreamRead};
 use std::alloc::Allocator;
 
 /// What a stream was credited.
@@ -75,28 +75,25 @@ impl<A: Allocator + Copy> Intake<A> {
         self.credit
     }
 
-    /// Opens a stream of this end's own, of a number below 65. If it is open already, it stays as it is. Fails with
-    /// `NoMemory` if memory is refused, and then nothing has changed.
-    pub fn open(&mut self, stream: u64) -> Result<(), Reason>
-        requires { stream < 65 }
+    /// Opens a stream of this end's own. If it is open already, it stays as it is. Fails with `NoMemory` if memory is
+    /// refused, and then nothing has changed.
+    pub fn open(&mut self, stream: StreamId) -> Result<(), Reason>
         ensures only_memory { IsOkUnless result Reason.NoMemory }
         ensures opened { OnOk result (self.new.state ≡ opened_stream self.old.state stream) }
         ensures unchanged { OnErr result (self.new.state ≡ self.old.state) }
     {
-        self.make_ready(stream)?;
-        self.open_ready(stream);
+        let number = u64::from(stream.number());
+        self.make_ready(number)?;
+        self.open_ready(number);
         Ok(())
     }
 
     /// The amount credited on a stream, in units of this end's asset: 0 if the stream is not open. Does not
     /// allocate.
-    pub fn credited_to(&self, stream: u64) -> u64
+    pub fn credited_to(&self, stream: StreamId) -> u64
         ensures { result ≡ credited_of (slot self.now.state.streams stream) }
     {
-        if self.has_stream(stream) {
-            return credited_of(&self.slots[stream as usize]);
-        }
-        0
+        credited_of(&self.slots[stream.place()])
     }
 
     /// Raises the receive max of a stream that is open.
@@ -123,21 +120,22 @@ impl<A: Allocator + Copy> Intake<A> {
     /// that the stream may receive in all. A smaller amount than before changes nothing. For a stream that the peer has
     /// not opened yet, it is kept until the stream opens. The stream must be open, or one that the peer may open, as
     /// `may_name` says.
-    pub fn set_receive_max(&mut self, stream: u64, amount: u64)
+    pub fn set_receive_max(&mut self, stream: StreamId, amount: u64)
         requires { may_name self.old.state stream ≡ true }
         ensures { self.new.state ≡ with_receive_max self.old.state stream amount }
     {
-        if self.has_stream(stream) {
-            self.raise_open(stream, amount);
+        let number = u64::from(stream.number());
+        if self.is_open(number) {
+            self.raise_open(number, amount);
         } else {
-            self.raise_kept(stream, amount);
+            self.raise_kept(number, amount);
         }
     }
 
     /// Reads the first bytes that can be read on an open stream, at most `max` of them. If there are none, it gives
     /// `End` once all bytes were read, else `Nothing`. After an abort it gives `Aborted` with the code. Fails with
     /// `NoMemory` if memory is refused, and then nothing has changed.
-    pub fn read(&mut self, stream: u64, max: usize) -> Result<StreamRead<A>, Reason>
+    pub fn read(&mut self, stream: StreamId, max: usize) -> Result<StreamRead<A>, Reason>
         requires { is_open self.old.state stream ≡ true }
         ensures only_memory { IsOkUnless result Reason.NoMemory }
         ensures got { IfOk result (λ g. got_seen g ≡ got max (incoming_at self.old.state stream).held) }
@@ -145,7 +143,18 @@ impl<A: Allocator + Copy> Intake<A> {
         ensures left { OnOk result (self.new.state ≡ after_got self.old.state stream max) }
         ensures unchanged { OnErr result (self.new.state ≡ self.old.state) }
     {
-        let k = stream as usize;
+        self.read_at(stream.place(), max)
+    }
+
+    /// As `read`, by the place of the stream.
+    fn read_at(&mut self, k: usize, max: usize) -> Result<StreamRead<A>, Reason>
+        requires { is_open self.old.state k ≡ true }
+        ensures only_memory { IsOkUnless result Reason.NoMemory }
+        ensures got { IfOk result (λ g. got_seen g ≡ got max (incoming_at self.old.state k).held) }
+        ensures few { IfOk result (λ g. got_count (got_seen g) ≤ 65536) }
+        ensures left { OnOk result (self.new.state ≡ after_got self.old.state k max) }
+        ensures unchanged { OnErr result (self.new.state ≡ self.old.state) }
+    {
         let mut incoming = drawn(&mut self.slots, &mut self.windows, &self.kept, k);
         let got = incoming.get(max);
         self.slots[k] = Some(incoming);

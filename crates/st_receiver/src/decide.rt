@@ -162,7 +162,7 @@ impl<A: Allocator + Copy> Intake<A> {
     fn stream_fault(&self, stream: u64) -> Option<Reason>
         ensures { result ≡ taken.stream_fault self.now.state stream }
     {
-        if self.may_name(stream) {
+        if self.may_be_named(stream) {
             return None;
         }
         Some(Reason::StreamId)

@@ -12,6 +12,7 @@ use crate::incoming::{Incoming, Window};
 use crate::reason::Reason;
 use crate::sequences::Sequences;
 use st_frames::StreamPacket;
+use st_streams::StreamId;
 use std::alloc::Allocator;
 use std::marker::Model;
 
@@ -20,7 +21,6 @@ pub(crate) const PLACES: usize = 65;
 
 /// The receiving side of a connection: the bytes, the money and the closes of all streams, and which Prepares were
 /// fulfilled.
-#[derive(Drop)]
 pub struct Intake<A: Allocator + Copy> {
     pub(crate) alloc: A,
     /// Of this end's own stream numbers: 1 for a client, 0 for a server.
@@ -36,6 +36,22 @@ pub struct Intake<A: Allocator + Copy> {
     pub(crate) credit: u64,
     /// The peer closed the connection.
     pub(crate) closed: bool,
+}
+
+// It is written out, so that a caller does not prove again how each part is dropped.
+impl<A: Allocator + Copy> Drop for Intake<A> {
+    fn drop(self) {
+        let Intake {
+            alloc: _,
+            parity: _,
+            slots: _,
+            windows: _,
+            kept: _,
+            fulfilled: _,
+            credit: _,
+            closed: _,
+        } = self;
+    }
 }
 
 impl<A: Allocator + Copy> Model for Intake<A> {
@@ -106,14 +122,28 @@ impl<A: Allocator + Copy> Intake<A> {
     }
 
     /// Whether a stream is open. Does not allocate.
-    pub fn has_stream(&self, stream: u64) -> bool
+    pub fn has_stream(&self, stream: StreamId) -> bool
+        ensures { result ≡ is_open self.now.state stream }
+    {
+        self.is_open(u64::from(stream.number()))
+    }
+
+    /// Whether a stream is open, or has a number that the peer may open. Does not allocate.
+    pub fn may_name(&self, stream: StreamId) -> bool
+        ensures { result ≡ may_name self.now.state stream }
+    {
+        self.may_be_named(u64::from(stream.number()))
+    }
+
+    /// Whether a frame's number is that of an open stream.
+    pub(crate) fn is_open(&self, stream: u64) -> bool
         ensures { result ≡ is_open self.now.state stream }
     {
         stream < 65 && self.slots[stream as usize].is_some()
     }
 
-    /// Whether a stream is open, or has a number that the peer may open. Does not allocate.
-    pub fn may_name(&self, stream: u64) -> bool
+    /// Whether a frame may have this number: that of an open stream, or of one that the peer may open.
+    pub(crate) fn may_be_named(&self, stream: u64) -> bool
         ensures { result ≡ may_name self.now.state stream }
     {
         1 <= stream

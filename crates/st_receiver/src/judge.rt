@@ -26,7 +26,7 @@ impl<A: Allocator + Copy> Intake<A> {
         if stream >= 65 {
             return Ok(());
         }
-        if self.has_stream(stream) {
+        if self.is_open(stream) {
             return Ok(());
         }
         if self.windows[stream as usize].is_some() {

@@ -72,7 +72,7 @@ impl<A: Allocator + Copy> Intake<A> {
         ensures only_memory { IsOkUnless result Reason.NoMemory }
         ensures told { OnOk result (Appends (cond is_named (limits_with self.now.state stream total_received) []) frames.old.items frames.new.items) }
     {
-        if is_named && self.may_name(stream) {
+        if is_named && self.may_be_named(stream) {
             return self.push_stream(frames, stream, total_received);
         }
         Ok(())

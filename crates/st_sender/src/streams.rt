@@ -12,6 +12,7 @@ ghost use Rattle.st_sender.specs.Waiting.{is_waiting};
 
 use crate::error::OutboxError;
 use crate::stream::Stream;
+use st_streams::StreamId;
 use std::alloc::{AllocError, Allocator};
 
 /// 65 places without a stream. Fails if memory is refused.
@@ -37,48 +38,55 @@ pub fn no_marks<A: Allocator + Copy>(alloc: A) -> Result<Vec<Option<u64>, A>, Al
 }
 
 /// Whether a stream is open.
-pub fn is_open<A: Allocator + Copy>(streams: &Vec<Option<Stream<A>>, A>, stream: u8) -> bool
+pub fn is_open<A: Allocator + Copy>(streams: &Vec<Option<Stream<A>>, A>, stream: StreamId) -> bool
     ensures yes { result ≡ true → slot streams.now.items stream ≢ None }
     ensures no { result ≡ false → slot streams.now.items stream ≡ None }
 {
-    if stream as usize >= streams.len() {
+    let place = stream.place();
+    if place >= streams.len() {
         return false;
     }
-    streams[stream as usize].is_some()
+    streams[place].is_some()
 }
 
 /// Whether a StreamClose of the stream was fulfilled.
-pub fn settled<A: Allocator + Copy>(streams: &Vec<Option<Stream<A>>, A>, stream: u8) -> bool
+pub fn settled<A: Allocator + Copy>(streams: &Vec<Option<Stream<A>>, A>, stream: StreamId) -> bool
     ensures { result ≡ is_settled (out_of (slot streams.now.items stream)) }
 {
-    if stream as usize >= streams.len() {
+    let place = stream.place();
+    if place >= streams.len() {
         return false;
     }
-    match &streams[stream as usize] {
+    match &streams[place] {
         Some(found) => found.is_settled(),
         None => false,
     }
 }
 
 /// Whether accepted bytes of the stream are not acknowledged, or its close is not fulfilled.
-pub fn waiting<A: Allocator + Copy>(streams: &Vec<Option<Stream<A>>, A>, stream: u8) -> bool
+pub fn waiting<A: Allocator + Copy>(streams: &Vec<Option<Stream<A>>, A>, stream: StreamId) -> bool
     ensures { result ≡ is_waiting (out_of (slot streams.now.items stream)) }
 {
-    if stream as usize >= streams.len() {
+    let place = stream.place();
+    if place >= streams.len() {
         return false;
     }
-    match &streams[stream as usize] {
+    match &streams[place] {
         Some(found) => found.is_waiting(),
         None => false,
     }
 }
 
-/// Opens the stream of this number, which is a place of `streams`.
-pub fn open<A: Allocator + Copy>(streams: &mut Vec<Option<Stream<A>>, A>, alloc: A, stream: u8)
-    requires { stream < length streams.old.items }
+/// Opens a stream.
+pub fn open<A: Allocator + Copy>(
+    streams: &mut Vec<Option<Stream<A>>, A>,
+    alloc: A,
+    stream: StreamId,
+)
+    requires { length streams.old.items ≡ 65 }
     ensures { streams.new.items ≡ with_slot streams.old.items stream new_lane }
 {
-    streams[stream as usize] = Some(Stream::new(alloc));
+    streams[stream.place()] = Some(Stream::new(alloc));
 }
 
 /// The bytes accepted on a stream.
@@ -141,15 +149,16 @@ fn left_in_all(all: u128) -> u64
 #[tactic(auto, using(crate::proofs::Room::is_room))]
 pub fn room<A: Allocator + Copy>(
     streams: &Vec<Option<Stream<A>>, A>,
-    stream: u8,
+    stream: StreamId,
 ) -> Result<u64, OutboxError>
     ensures { TellsRoom (out_of (slot streams.now.items stream)) (specs.all_accepted (outs streams.now.items)) result }
 {
-    if stream as usize >= streams.len() {
+    let place = stream.place();
+    if place >= streams.len() {
         return Err(OutboxError::NoStream);
     }
     let all = all_accepted(streams);
-    match &streams[stream as usize] {
+    match &streams[place] {
         None => Err(OutboxError::NoStream),
         Some(found) => {
             if found.is_closed() {
@@ -166,18 +175,19 @@ pub fn room<A: Allocator + Copy>(
 /// Queues bytes on a stream: all of them, or none. The errors are those of `Outbox::accept`.
 pub fn accept<A: Allocator + Copy>(
     streams: &mut Vec<Option<Stream<A>>, A>,
-    stream: u8,
+    stream: StreamId,
     bytes: &[u8],
 ) -> Result<(), OutboxError>
     ensures accepts { OnOk result (streams.new.items ≡ changed_lane streams.old.items stream (on_out (after_write bytes.now))) }
     ensures unchanged { OnErr result (streams.new.items ≡ streams.old.items) }
     ensures refuses { AnswersOrWants (why_not_write streams.old.items stream (length bytes.now)) result }
 {
-    if stream as usize >= streams.len() {
+    let place = stream.place();
+    if place >= streams.len() {
         return Err(OutboxError::NoStream);
     }
     let all = all_accepted(streams);
-    match &mut streams[stream as usize] {
+    match &mut streams[place] {
         None => Err(OutboxError::NoStream),
         Some(found) => {
             if found.is_closed() {
@@ -194,16 +204,17 @@ pub fn accept<A: Allocator + Copy>(
 /// Closes a stream cleanly. The errors are those of `Outbox::close`.
 pub fn close<A: Allocator + Copy>(
     streams: &mut Vec<Option<Stream<A>>, A>,
-    stream: u8,
+    stream: StreamId,
 ) -> Result<(), OutboxError>
     ensures closes { OnOk result (streams.new.items ≡ changed_lane streams.old.items stream (on_out after_clean)) }
     ensures unchanged { OnErr result (streams.new.items ≡ streams.old.items) }
     ensures refuses { Answers (refusal_at (out_of (slot streams.old.items stream)) is_closed no_more) result }
 {
-    if stream as usize >= streams.len() {
+    let place = stream.place();
+    if place >= streams.len() {
         return Err(OutboxError::NoStream);
     }
-    match &mut streams[stream as usize] {
+    match &mut streams[place] {
         None => Err(OutboxError::NoStream),
         Some(found) => {
             if found.is_closed() {
@@ -218,17 +229,18 @@ pub fn close<A: Allocator + Copy>(
 /// Aborts a stream with this code. The errors are those of `Outbox::abort`.
 pub fn abort<A: Allocator + Copy>(
     streams: &mut Vec<Option<Stream<A>>, A>,
-    stream: u8,
+    stream: StreamId,
     code: u8,
 ) -> Result<(), OutboxError>
     ensures aborts { OnOk result (streams.new.items ≡ changed_lane streams.old.items stream (on_out (after_stream_abort code))) }
     ensures unchanged { OnErr result (streams.new.items ≡ streams.old.items) }
     ensures refuses { Answers (refusal_at (out_of (slot streams.old.items stream)) is_aborted no_more) result }
 {
-    if stream as usize >= streams.len() {
+    let place = stream.place();
+    if place >= streams.len() {
         return Err(OutboxError::NoStream);
     }
-    match &mut streams[stream as usize] {
+    match &mut streams[place] {
         None => Err(OutboxError::NoStream),
         Some(found) => {
             if found.is_aborted() {
@@ -243,18 +255,19 @@ pub fn abort<A: Allocator + Copy>(
 /// Offers money on a stream. The errors are those of `Outbox::offer`.
 pub fn offer<A: Allocator + Copy>(
     streams: &mut Vec<Option<Stream<A>>, A>,
-    stream: u8,
+    stream: StreamId,
     amount: u64,
 ) -> Result<(), OutboxError>
     ensures offers { OnOk result (streams.new.items ≡ changed_lane streams.old.items stream (on_out (after_offer amount))) }
     ensures unchanged { OnErr result (streams.new.items ≡ streams.old.items) }
     ensures refuses { Answers (why_not_offer streams.old.items stream amount) result }
 {
-    if stream as usize >= streams.len() {
+    let place = stream.place();
+    if place >= streams.len() {
         return Err(OutboxError::NoStream);
     }
     let all = all_offered(streams);
-    match &mut streams[stream as usize] {
+    match &mut streams[place] {
         None => Err(OutboxError::NoStream),
         Some(found) => {
             if found.is_closed() {

@@ -24,7 +24,6 @@ use std::marker::Model;
 
 /// The result of a run: both ends and the hops, each with the Prepares that it answered, what was written and read of
 /// each stream, and whether some call ran out of memory.
-#[derive(Drop)]
 pub struct Trace<A: Allocator + Copy> {
     pub(crate) client: Party<A>,
     pub(crate) server: Party<A>,
@@ -35,6 +34,21 @@ pub struct Trace<A: Allocator + Copy> {
     pub(crate) from_server: StreamLogs<A>,
     pub(crate) refused: bool,
     pub(crate) alloc: A,
+}
+
+// It is written out, so that a caller does not prove again how each part is dropped.
+impl<A: Allocator + Copy> Drop for Trace<A> {
+    fn drop(self) {
+        let Trace {
+            client: _,
+            server: _,
+            nodes: _,
+            from_client: _,
+            from_server: _,
+            refused: _,
+            alloc: _,
+        } = self;
+    }
 }
 
 impl<A: Allocator + Copy> Model for Trace<A> {

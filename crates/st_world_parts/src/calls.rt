@@ -12,7 +12,7 @@ ghost use Rattle.st_world_parts.specs.Parts.{CallMet, OpenMet, RaiseMet, ReadMet
 use crate::ledger::{Slot, StreamLogs};
 use crate::party::Party;
 use crate::told::Told;
-use st_end::{EndError, EndState};
+use st_end::{EndError, EndState, by_number};
 use st_receiver::Got;
 use std::alloc::{AllocError, Allocator};
 
@@ -32,7 +32,7 @@ fn write_slot<A: Allocator + Copy>(
     ensures same_slot { OnErr result (slot.new ≡ slot.old) }
 {
     slot.ledger.written.reserve(bytes.len())?;
-    match state.write(stream, bytes) {
+    match by_number::write(state, stream, bytes) {
         Ok(()) => {
             slot.ledger.written.extend_from_slice(bytes).unwrap();
             slot.is_there = true;
@@ -52,7 +52,7 @@ fn close_slot<A: Allocator + Copy>(
     ensures met { SlotMet (calls.close state.old stream) (cleanly_closed (ledger_or slot.old)) (told_seen result) state.old state.new slot.old slot.new }
     ensures called { told_seen result ≡ events.Call (calls.close state.old stream).0 }
 {
-    match state.close(stream) {
+    match by_number::close(state, stream) {
         Ok(()) => {
             slot.ledger.clean = true;
             slot.is_there = true;
@@ -73,7 +73,7 @@ fn abort_slot<A: Allocator + Copy>(
     ensures met { SlotMet (calls.abort state.old stream code) (given_up (ledger_or slot.old)) (told_seen result) state.old state.new slot.old slot.new }
     ensures called { told_seen result ≡ events.Call (calls.abort state.old stream code).0 }
 {
-    match state.abort(stream, code) {
+    match by_number::abort(state, stream, code) {
         Ok(()) => {
             slot.ledger.aborted = true;
             slot.is_there = true;
@@ -93,7 +93,7 @@ fn offer_slot<A: Allocator + Copy>(
     ensures met { SlotMet (calls.offer state.old stream amount) (ledger_or slot.old) (told_seen result) state.old state.new slot.old slot.new }
     ensures called { told_seen result ≡ events.Call (calls.offer state.old stream amount).0 }
 {
-    match state.offer(stream, amount) {
+    match by_number::offer(state, stream, amount) {
         Ok(()) => {
             slot.is_there = true;
             Told::Call(Ok(()))
@@ -116,7 +116,7 @@ fn read_slot<A: Allocator + Copy>(
 {
     let room = max.min(MAX_READ);
     slot.ledger.read.reserve(room)?;
-    match state.read(stream, max) {
+    match by_number::read(state, stream, max) {
         Ok(Got::Bytes(bytes)) => {
             slot.ledger.read.extend_from_slice(&bytes).unwrap();
             slot.is_there = true;
@@ -232,8 +232,9 @@ pub fn open_at<A: Allocator + Copy>(party: &mut Party<A>) -> Told<A>
     ensures { OpenMet (calls.open_stream party.old.state) (told_seen result) party.old party.new }
 {
     match party.state.open_stream() {
+        Ok(stream) => Told::Opened(Ok(stream.number())),
         Err(EndError::NoMemory) => Told::NoMemory,
-        answer => Told::Opened(answer),
+        Err(why) => Told::Opened(Err(why)),
     }
 }
 
@@ -242,5 +243,6 @@ pub fn open_at<A: Allocator + Copy>(party: &mut Party<A>) -> Told<A>
 pub fn raise_at<A: Allocator + Copy>(party: &mut Party<A>, stream: u8, amount: u64) -> Told<A>
     ensures { RaiseMet (calls.set_receive_max party.old.state stream amount) (told_seen result) party.old party.new }
 {
-    Told::Call(party.state.set_receive_max(stream, amount))
+    let answer = by_number::set_receive_max(&mut party.state, stream, amount);
+    Told::Call(answer)
 }

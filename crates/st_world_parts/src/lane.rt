@@ -145,10 +145,19 @@ impl<A: Allocator + Copy> SentAnswer<A> {
 
 /// One direction of a link: the Prepares that were sent in it and the answers that were sent back to them, each in
 /// order.
-#[derive(Drop)]
 pub struct Direction<A: Allocator + Copy> {
     pub(crate) prepares: Vec<SentPrepare<A>, A>,
     pub(crate) given: Vec<SentAnswer<A>, A>,
+}
+
+// It is written out, so that a caller does not prove again how each part is dropped.
+impl<A: Allocator + Copy> Drop for Direction<A> {
+    fn drop(self) {
+        let Direction {
+            prepares: _,
+            given: _,
+        } = self;
+    }
 }
 
 impl<A: Allocator + Copy> Model for Direction<A> {
@@ -205,12 +214,21 @@ impl<A: Allocator + Copy> Direction<A> {
 }
 
 /// A link, in both directions.
-#[derive(Drop)]
 pub struct Link<A: Allocator + Copy> {
     /// The Prepares towards the server, and their answers.
     pub client: Direction<A>,
     /// The Prepares towards the client, and their answers.
     pub server: Direction<A>,
+}
+
+// It is written out, so that a caller does not prove again how each part is dropped.
+impl<A: Allocator + Copy> Drop for Link<A> {
+    fn drop(self) {
+        let Link {
+            client: _,
+            server: _,
+        } = self;
+    }
 }
 
 impl<A: Allocator + Copy> Model for Link<A> {

@@ -11,7 +11,6 @@ use std::marker::Model;
 const NUMBERS: usize = 256;
 
 /// What was written and read of a stream in one direction, and how its reader learned of its end.
-#[derive(Drop)]
 pub struct StreamLog<A: Allocator + Copy> {
     pub(crate) written: Vec<u8, A>,
     pub(crate) read: Vec<u8, A>,
@@ -19,6 +18,20 @@ pub struct StreamLog<A: Allocator + Copy> {
     pub(crate) aborted: bool,
     pub(crate) saw_end: bool,
     pub(crate) saw_abort: bool,
+}
+
+// It is written out, so that a caller does not prove again how each part is dropped.
+impl<A: Allocator + Copy> Drop for StreamLog<A> {
+    fn drop(self) {
+        let StreamLog {
+            written: _,
+            read: _,
+            clean: _,
+            aborted: _,
+            saw_end: _,
+            saw_abort: _,
+        } = self;
+    }
 }
 
 impl<A: Allocator + Copy> Model for StreamLog<A> {

@@ -42,12 +42,23 @@ fn take_ticket<A: Allocator + Copy>(kept: &mut Tickets<A>, number: u64) -> Optio
 
 /// A hop (RFC 0027), its open tickets, and the Prepares that it answered. A ticket represents a Prepare that was
 /// forwarded and has no outcome yet.
-#[derive(Drop)]
 pub struct Node<A: Allocator + Copy> {
     state: HopState<A>,
     kept: Tickets<A>,
     answered: Vec<AnsweredAtHop, A>,
     alloc: A,
+}
+
+// It is written out, so that a caller does not prove again how each part is dropped.
+impl<A: Allocator + Copy> Drop for Node<A> {
+    fn drop(self) {
+        let Node {
+            state: _,
+            kept: _,
+            answered: _,
+            alloc: _,
+        } = self;
+    }
 }
 
 impl<A: Allocator + Copy> Model for Node<A> {

@@ -7,7 +7,6 @@ ghost use Rattle.st_oer.specs.Address.{is_address};
 ghost use Rattle.st_end.specs.State.{new_end};
 ghost use Rattle.st_end.specs.Calls.{has_stream};
 ghost use Rattle.st_end.specs.Reading.{read};
-ghost use Rattle.st_end.specs.Seen.{totals_seen};
 ghost use Rattle.st_end.specs.Totals as totals;
 ghost use Rattle.st_end.specs.Sending.{is_open};
 ghost use Rattle.st_world_parts.specs.State.{new_party};
@@ -18,7 +17,7 @@ ghost use Rattle.st_world_parts.specs.Parts.{EndSends, EndMet, EndBack};
 use crate::entry::{AnsweredAtEnd, amount_in, is_fulfill};
 use crate::lane::{Direction, SentAnswer, SentPrepare, mark_taken};
 use crate::told::Told;
-use st_end::{EndError, EndState, Flight, Open, OpenFlight, Role, Totals};
+use st_end::{EndError, EndState, Flight, Open, OpenFlight, Role, Totals, by_number};
 use st_ilp::Moment;
 use st_keys::Keys;
 use st_links::Outcome;
@@ -80,12 +79,23 @@ fn take_flight<A: Allocator>(kept: &mut Vec<OpenFlight, A>, place: usize, wanted
 
 /// An end (RFC 0029), its open flights, and the Prepares that it answered. A flight represents a Prepare that was sent
 /// and has no outcome yet.
-#[derive(Drop)]
 pub struct Party<A: Allocator + Copy> {
     pub(crate) state: EndState<A>,
     kept: Vec<OpenFlight, A>,
     answered: Vec<AnsweredAtEnd, A>,
     alloc: A,
+}
+
+// It is written out, so that a caller does not prove again how each part is dropped.
+impl<A: Allocator + Copy> Drop for Party<A> {
+    fn drop(self) {
+        let Party {
+            state: _,
+            kept: _,
+            answered: _,
+            alloc: _,
+        } = self;
+    }
 }
 
 impl<A: Allocator + Copy> Model for Party<A> {
@@ -141,12 +151,12 @@ impl<A: Allocator + Copy> Party<A> {
         ensures reads { (limit : ℕ) → is_ok (read self.now.state stream limit).0 ≡ result }
     {
         self.state.reads_what_is_open();
-        self.state.has_stream(stream)
+        by_number::has_stream(&self.state, stream)
     }
 
     /// The end's totals: bytes written and read, amounts credited and paid. Does not allocate.
     pub fn totals(&self) -> Totals
-        ensures { totals_seen result ≡ totals.totals self.now.state }
+        ensures { result ≡ totals.totals self.now.state }
     {
         self.state.totals()
     }

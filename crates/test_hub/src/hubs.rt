@@ -4,7 +4,7 @@ ghost use Rattle.st_queues.specs.Lanes.{ring_at};
 ghost use Rattle.st_hub.specs.Hub.{IsNew};
 
 use crate::ends::{Counting, client, server, stopped_clock};
-use st_end::EndState;
+use st_end::{EndState, StreamId};
 use st_hub::{Bench, CreditShare, HubState, Observer, Unwatched, WorkEnd, Worker, work};
 use st_links::Link;
 use st_queues::{Gauge, GaugeSeat, HubName, Rings, StreamWriter};
@@ -91,7 +91,7 @@ pub(crate) fn work_resting<
             clock: &mut clock,
             gauge: &hubs.gauge,
             seat,
-            stream: 0,
+            stream: None,
             rest,
             turns: u64::from(turns),
             watch,
@@ -99,13 +99,16 @@ pub(crate) fn work_resting<
     )
 }
 
-/// The number and the writer of a new stream.
+/// A new stream, and its writer.
 pub(crate) fn open<N: HubName<A>, A: Allocator + Copy>(
     rt: &impl Abort,
     hub: &mut HubState<N, A>,
-) -> (u8, StreamWriter<N, A>) {
+) -> (StreamId, StreamWriter<N, A>) {
     match hub.open_stream() {
-        Ok((stream, writer, _)) => (stream, writer),
+        Ok(opened) => {
+            let (stream, writer, _reader) = opened;
+            (stream, writer)
+        }
         Err(refused) => panic!(rt; "refused {}", refused.number()),
     }
 }
@@ -114,7 +117,7 @@ pub(crate) fn open<N: HubName<A>, A: Allocator + Copy>(
 pub(crate) fn further<N: HubName<Global>>(
     rt: &impl Abort,
     hub: &mut HubState<N, Global>,
-    stream: u8,
+    stream: StreamId,
 ) -> StreamWriter<N, Global> {
     match hub.add_writer(stream) {
         Ok(writer) => writer,
@@ -138,8 +141,12 @@ pub(crate) fn pump<N: HubName<A>, A: Allocator + Copy>(rt: &impl Abort, hub: &mu
     sure!(rt; hub.pump() == Ok(()));
 }
 
-/// Offers an amount, in units, on a new stream, and returns its number.
-fn offer_at<N: HubName<Global>>(rt: &impl Abort, hub: &mut HubState<N, Global>, amount: u64) -> u8 {
+/// Offers an amount, in units, on a new stream, and returns the stream.
+fn offer_at<N: HubName<Global>>(
+    rt: &impl Abort,
+    hub: &mut HubState<N, Global>,
+    amount: u64,
+) -> StreamId {
     let (stream, _writer) = open(rt, hub);
     sure!(rt; hub.offer(stream, amount) == Ok(()));
     stream

@@ -26,7 +26,7 @@ impl<R: Wait + Abort + std::time::Clock> Trial<R> for AcceptsNothing {
         let (stream, _writer) = open(rt, &mut *hubs.far.lock(rt));
         sure!(rt; hubs.far.lock(rt).offer(stream, 10) == Ok(()));
         send_all(rt, &hubs.far, &hubs.near);
-        sure!(rt; stream == 2 && hubs.near.lock(rt).totals().credited == 0);
+        sure!(rt; stream.number() == 2 && hubs.near.lock(rt).totals().credited == 0);
     }
 }
 

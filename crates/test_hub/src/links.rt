@@ -2,6 +2,7 @@
 use crate::ends::{Counting, stopped_clock};
 use crate::hubs::{Locked, Trial, credited, open, pump, run, share_of, work_on};
 use crate::readings::Reading;
+use st_end::StreamId;
 use st_hub::{CreditShare, HubLink, HubState, WorkEnd};
 use st_queues::{GaugeSeat, HubName, StreamWriter};
 use std::alloc::Global;
@@ -43,7 +44,7 @@ fn write_abcd<N: HubName<Global>>(
     rt: &impl Abort,
     alloc: Global,
     hub: &mut HubState<N, Global>,
-) -> u8 {
+) -> StreamId {
     let (stream, mut writer) = open(rt, hub);
     write_two(rt, alloc, &mut writer, b"ab", b"cd");
     pump(rt, hub);

@@ -5,7 +5,7 @@ ghost use Rattle.st_hub.specs.Hub.{IsNew};
 
 use crate::ends::{client, moment, server};
 use crate::hubs::{new_rings, pump, share_of};
-use st_end::{EndError, EndState};
+use st_end::{EndError, EndState, StreamId};
 use st_hub::{Bench, CreditShare, HubError, HubState};
 use st_ilp::Moment;
 use st_queues::{Gauge, GaugeSeat, HubName, Rings, StreamReader, StreamWriter, Totals};
@@ -68,8 +68,8 @@ pub(crate) fn run<T: Refused<R>, R: Abort>(rt: &R, heap: &Refusing<Global>, tria
 /// A Prepare of 10 units that a client sends first.
 pub(crate) fn prepare(rt: &impl Abort, alloc: Global) -> Vec<u8> {
     let mut end = client(rt, alloc, 1_000);
-    sure!(rt; end.open_stream() == Ok(1));
-    sure!(rt; end.offer(1, 10) == Ok(()));
+    sure!(rt; end.open_stream() == Ok(StreamId::FIRST));
+    sure!(rt; end.offer(StreamId::FIRST, 10) == Ok(()));
     match end.send([9; 12], moment(rt)) {
         Ok(Some((flight, bytes))) => {
             flight.abandon();
@@ -98,7 +98,7 @@ pub(crate) fn begin<N: HubName<A>, A: Allocator + Copy>(
     alloc: A,
     hub: &mut HubState<N, A>,
 ) -> (StreamWriter<N, A>, StreamReader<N, A>) {
-    sure!(rt; hub.set_receive_max(1, 100) == Ok(()));
+    sure!(rt; hub.set_receive_max(StreamId::FIRST, 100) == Ok(()));
     match hub.open_stream() {
         Ok((_, mut writer, reader)) => {
             write_abcd(rt, alloc, &mut writer);
@@ -120,7 +120,10 @@ enum Call {
 /// The number of an opened stream.
 fn opened<N: HubName<A>, A: Allocator + Copy>(hub: &mut HubState<N, A>) -> Result<u64, HubError> {
     match hub.open_stream() {
-        Ok((stream, _, _)) => Ok(u64::from(stream)),
+        Ok(opened) => {
+            let (stream, _writer, _reader) = opened;
+            Ok(u64::from(stream.number()))
+        }
         Err(EndError::NoMemory) => Err(HubError::NoMemory),
         Err(_) => Err(HubError::NoStream),
     }

@@ -4,6 +4,7 @@
 use crate::ends::{Counting, moment, stopped_clock};
 use crate::hubs::{rest, share_of};
 use crate::memory::{Refused, begin, came, prepare, run};
+use st_end::StreamId;
 use st_hub::{Bench, CreditShare, HubError, HubLink, HubState, Unwatched, WorkEnd, Worker, work};
 use st_ilp::Moment;
 use st_links::{Link, LinkFault, Outcome};
@@ -15,9 +16,9 @@ use test_refusing::Refusing;
 
 /// Calls on money and streams that never allocate.
 fn call_streams<N: HubName<A>, A: Allocator + Copy>(rt: &impl Abort, hub: &mut HubState<N, A>) {
-    sure!(rt; hub.offer(1, 5) == Ok(()));
-    sure!(rt; hub.set_receive_max(1, 200) == Ok(()));
-    sure!(rt; hub.add_writer(1).is_ok());
+    sure!(rt; hub.offer(StreamId::FIRST, 5) == Ok(()));
+    sure!(rt; hub.set_receive_max(StreamId::FIRST, 200) == Ok(()));
+    sure!(rt; hub.add_writer(StreamId::FIRST).is_ok());
     sure!(rt; hub.take_stream().is_some());
     sure!(rt; hub.take_stream().is_none());
 }
@@ -33,7 +34,7 @@ fn call_others<N: HubName<A>, A: Allocator + Copy>(
     sure!(rt; hub.meet_writer(writer) == 2);
     sure!(rt; hub.meet_reader(reader) == 0);
     sure!(rt; matches!(reader.try_read(), Got::Nothing));
-    sure!(rt; !hub.settled(1) && !hub.is_failed() && !hub.t00().is_empty());
+    sure!(rt; !hub.settled(StreamId::FIRST) && !hub.is_failed() && !hub.t00().is_empty());
 }
 
 /// Ends a `Turn` with a fault. Returns how many requests for memory that made.
@@ -158,7 +159,7 @@ fn starve<N: HubName<A>, A: Allocator + Copy, L: Link<A>, R: Wait + Abort + std:
             clock: &mut clock,
             gauge,
             seat,
-            stream: 0,
+            stream: None,
             rest: rest(),
             turns: 1,
             watch: &mut Unwatched,

@@ -3,7 +3,7 @@ ghost use Rattle.std.specs.Prelude.{◌≡◌};
 ghost use Rattle.st_end.specs.Opened.{IsOpenedBy};
 
 use crate::ends::{client, moment};
-use st_end::{EndError, EndState, Opened, Received, Role};
+use st_end::{EndError, EndState, Opened, Received, Role, StreamId};
 use st_ilp::Moment;
 use st_keys::Keys;
 use st_oer::is_address;
@@ -18,8 +18,8 @@ const SECRET: [u8; 32] = [0; 32];
 /// A Prepare to "test.b" with two bytes on stream 1 and no money.
 fn prepare(rt: &impl Abort, alloc: Global) -> Vec<u8> {
     let mut end = client(rt, alloc, 1_000);
-    sure!(rt; end.open_stream() == Ok(1));
-    sure!(rt; end.write(1, b"hi") == Ok(()));
+    sure!(rt; end.open_stream() == Ok(StreamId::FIRST));
+    sure!(rt; end.write(StreamId::FIRST, b"hi") == Ok(()));
     match end.send([9; 12], moment(rt)) {
         Ok(Some((flight, bytes))) => {
             flight.abandon();
@@ -82,7 +82,7 @@ fn outcome<A: Allocator + Copy>(
 fn answer_at_once(rt: &impl Abort, alloc: Global, bytes: &[u8]) -> (Received<Global>, bool) {
     let (mut end, _) = end_and_keys(rt, alloc, "test.b", "test.a");
     let answer = end.receive(bytes, moment(rt)).expect(rt, "memory");
-    let is_ready = end.is_ready(1);
+    let is_ready = end.is_ready(StreamId::FIRST);
     drop(end);
     (answer, is_ready)
 }
@@ -93,7 +93,7 @@ fn answer_opened(rt: &impl Abort, alloc: Global, bytes: &[u8]) -> (Received<Glob
     let bytes = Vec::from_slice(alloc, bytes).expect(rt, "memory");
     let opened = Opened::of(alloc, &keys, bytes);
     let answer = end.receive_opened(&opened, moment(rt)).expect(rt, "memory");
-    let is_ready = end.is_ready(1);
+    let is_ready = end.is_ready(StreamId::FIRST);
     drop(end);
     (answer, is_ready)
 }
@@ -123,7 +123,7 @@ fn answer_closed(
     let (mut end, keys) = end_and_keys(rt, heap, own, "test.a");
     let closed = open(rt, heap, &keys, bytes, true);
     let answer = outcome(end.receive_opened(&closed, now));
-    let has_stream = end.has_stream(1);
+    let has_stream = end.has_stream(StreamId::FIRST);
     drop(end);
     (answer, has_stream)
 }
@@ -159,10 +159,10 @@ fn judge_while_refused<A: Allocator + Copy>(
     heap.refuse_none();
     if was {
         sure!(rt; answer == Err(EndError::NoMemory));
-        sure!(rt; !end.has_stream(1));
+        sure!(rt; !end.has_stream(StreamId::FIRST));
     } else {
         sure!(rt; answer == Ok((0, 0)));
-        sure!(rt; end.is_ready(1));
+        sure!(rt; end.is_ready(StreamId::FIRST));
     }
     was
 }

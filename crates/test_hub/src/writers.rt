@@ -2,6 +2,7 @@
 use crate::hubs::{Locked, Trial, further, open, pump, run, share_of};
 use crate::links::{send_over, write_two};
 use crate::readings::Reading;
+use st_end::StreamId;
 use st_hub::HubState;
 use st_queues::{GaugeSeat, HubName, StreamWriter};
 use std::alloc::Global;
@@ -40,7 +41,7 @@ fn reads_back(rt: HostRuntime) {
 }
 
 /// The number of a refusal of a further writer, 0 if there is none.
-fn refusal<N: HubName<Global>>(hub: &mut HubState<N, Global>, stream: u8) -> u8 {
+fn refusal<N: HubName<Global>>(hub: &mut HubState<N, Global>, stream: StreamId) -> u8 {
     match hub.add_writer(stream) {
         Ok(_) => 0,
         Err(refused) => refused.number(),
@@ -51,7 +52,7 @@ fn refusal<N: HubName<Global>>(hub: &mut HubState<N, Global>, stream: u8) -> u8 
 fn end_two<N: HubName<Global>>(
     rt: &impl Abort,
     hub: &mut HubState<N, Global>,
-    stream: u8,
+    stream: StreamId,
     first: &mut StreamWriter<N, Global>,
     second: &mut StreamWriter<N, Global>,
 ) {
@@ -66,7 +67,7 @@ fn end_two<N: HubName<Global>>(
 
 /// One writer puts "aa" and "bb", the other one "cc", and both end.
 fn write_all<N: HubName<Global>>(rt: &impl Abort, alloc: Global, hub: &mut HubState<N, Global>) {
-    sure!(rt; refusal(hub, 1) == 50);
+    sure!(rt; refusal(hub, StreamId::FIRST) == 50);
     let (stream, mut first) = open(rt, hub);
     let mut second = further(rt, hub, stream);
     write_two(rt, alloc, &mut first, b"aa", b"bb");

@@ -4,7 +4,7 @@ use crate::sides::{TOKEN, TURNS, receive, sender, with_money};
 use crate::transfers::{Place, listen};
 use ilpstream_serving::{HttpLink, RuntimeClock, TransferError};
 use st_devices::Counting;
-use st_end::{EndState, Flight};
+use st_end::{EndState, Flight, StreamId};
 use st_file::FileError;
 use st_http::is_field_text;
 use st_ilp::Moment;
@@ -83,10 +83,10 @@ fn send_and_abort<N: Net + std::time::Clock>(net: &N, alloc: Global, host: &str)
     let Ok(mut end) = sender(alloc, Rate::new(1, 1).unwrap()) else {
         return false;
     };
-    if end.open_stream() != Ok(1) || end.write(1, b"abc").is_err() {
+    if end.open_stream() != Ok(StreamId::FIRST) || end.write(StreamId::FIRST, b"abc").is_err() {
         return false;
     }
-    if !send_next(net, &mut end, &mut link, 1) || end.abort(1, 9).is_err() {
+    if !send_next(net, &mut end, &mut link, 1) || end.abort(StreamId::FIRST, 9).is_err() {
         return false;
     }
     send_next(net, &mut end, &mut link, 2)

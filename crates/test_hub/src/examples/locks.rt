@@ -50,7 +50,7 @@ fn send_hi<N: HubName<Global>, M: HubName<Global>, R: Wait + std::process::Abort
     rt: &R,
     alloc: Global,
     hubs: &crate::hubs::Locked<N, M>,
-) -> u8 {
+) -> st_end::StreamId {
     let (stream, mut writer) = crate::hubs::open(rt, &mut *hubs.near.lock(rt));
     let text = b"hi".to_vec(alloc).expect(rt, "memory");
     sure!(rt; write_last(&mut writer, text).is_ok());

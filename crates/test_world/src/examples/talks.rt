@@ -1,6 +1,6 @@
 //! Two ends in memory.
 
-use st_end::{EndConfig, EndError, EndState, Got, Keys, Moment, Role};
+use st_end::{EndConfig, EndError, EndState, Got, Keys, Moment, Role, StreamId};
 use std::alloc::Global;
 
 /// A client and a server that share a secret.
@@ -68,7 +68,7 @@ fn two_ends_talk(rt: HostRuntime) {
     sure!(&rt; read.is_some_and(|bytes| bytes.as_slice() == b"hi".as_slice()));
     sure!(&rt; client.totals().paid == 10);
     sure!(&rt; server.totals().credited == 10);
-    sure!(&rt; client.settled(1));
+    sure!(&rt; client.settled(StreamId::FIRST));
     drop(client);
     drop(server);
 }

@@ -9,11 +9,7 @@ matches : (b : Bool) (e : EndState) (k : ℕ) → 0 < k → k < 65 → b ≡ has
 matches true e k above below is = (above, below, sym is)
 matches false e k above below is = λ h. absurd (let f : has_stream e k ≡ true = h.2 in cc)
 
-pub returns-then-stream-eq0 : goal.returns-then-stream-eq0
-returns-then-stream-eq0 g c = λ h. let a = h.0 in let b = c.if-stream-eq0.true in omega arith
-
-pub returns-then-stream-gt64 : goal.returns-then-stream-gt64
-returns-then-stream-gt64 g c = λ h. let a = h.1 in let b = c.if-stream-gt64.true in omega arith
-
 pub returns : goal.returns
-returns g c = matches c.has_stream.result c.args.core.now c.args.stream (let a = c.if-stream-eq0.false in omega arith) (let b = c.if-stream-gt64.false in omega arith) c.has_stream.ensures
+returns g c =
+    let n = c.number.ensures in
+    matches c.has_stream.result c.args.core.now c.args.stream (omega (arith, n.number, n.bounds.0)) (omega (arith, n.number, n.bounds.1)) c.has_stream.ensures

@@ -23,7 +23,7 @@ returns-in-Ok-clause-after g c =
     let first = subst (λ (x : Item _). IsPrefix (x ∷ []) (known c.look.new.self)) c.in-Chunk.is c.first.ensures in
     let took = c.drop_first.ensures.took (item.Chunk v) first in
     let wrote = write_ok _ _ c.args.stream c.deref.result.now _ c.in-Ok.ensures.answers in
-    inl (v, subst (λ (bs : List ℕ). write c.args.core.now c.args.stream bs ≡ (Ok tt, c.write.new.self)) c.deref.ensures.value wrote, took.0 ∙ ap (λ l. l ++ item.Chunk v ∷ []) c.look.ensures.same.1)
+    inl (v, subst (λ (bs : List ℕ). write c.args.core.now c.args.stream bs ≡ (Ok tt, c.write.new.state)) c.deref.ensures.value wrote, took.0 ∙ ap (λ l. l ++ item.Chunk v ∷ []) c.look.ensures.same.1)
 
 pub returns-in-Ok-close_last-clause-over : goal.returns-in-Ok-close_last-clause-over
 returns-in-Ok-close_last-clause-over g c =
@@ -66,7 +66,7 @@ returns-in_default-clause-grows g c = longer_look _ _ _ _ c.look.ensures.same.1 
 pub returns-in_default-clause-stops : goal.returns-in_default-clause-stops
 returns-in_default-clause-stops g c =
     let v = c.in-Chunk.chunk in
-    let b = c.write.new.self in
+    let b = c.write.new.state in
     let why = c.in-Err.why in
     let first = subst (λ (x : Item _). IsPrefix (x ∷ []) (known c.look.new.self)) c.in-Chunk.is c.first.ensures in
     let answer = refused_still c.args.core.now b c.args.stream c.deref.result.now why c.in_default.not-NoMemory c.in-Err.ensures.unchanged c.in-Err.ensures.answers in

@@ -2,7 +2,7 @@ use Rattle.std.proofs.Common.{◌≡◌, ◌∙◌, sym, ap, refl, arith}
 use Rattle.st_end.specs.State.{EndState}
 use Rattle.st_hub.specs.Flow.{inlet_at, outlet_at}
 use Rattle.st_hub.specs.Trying.{Beside, known_at, room_at}
-use Rattle.st_hub.specs.Hub.{shown_of}
+use Rattle.st_end.specs.Totals.{totals}
 use Rattle.st_hub.proofs.FreshRings.{shown_new, all_fresh_inlets, all_fresh_outlets, all_fresh_known, all_fresh_room}
 use Rattle.st_hub.proofs.hub.HubState.new.Goals as goal
 
@@ -10,7 +10,7 @@ pub invariant_of-hub : goal.invariant_of-hub
 invariant_of-hub g c =
     let core : c.new.result.flow.core ≡ c.args.core = ap (λ (f : Beside _). f.flow.core) c.new.ensures in
     let name = c.requires.name in (
-      c.named-writes.ensures.seats.0 ∙ sym (shown_new c.args.core c.requires.fresh) ∙ ap shown_of (sym core),
+      c.named-writes.ensures.seats.0 ∙ sym (shown_new c.args.core c.requires.fresh) ∙ ap totals (sym core),
       c.open-credit.ensures.total ∙ sym (ap (λ (e : EndState). e.receiving.credit) core ∙ c.requires.fresh.credit),
       omega (arith, c.open-credit.ensures.parts, name.1, name.2),
       omega arith,

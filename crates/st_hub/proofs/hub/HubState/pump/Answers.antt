@@ -1,13 +1,14 @@
 use Rattle.std.proofs.Common.{subst, sym, arith, Result, Ok, Err}
 use Rattle.std.specs.Prelude.{OnOk}
 use Rattle.st_queues.specs.Watching.{IsUpTo}
-use Rattle.st_hub.specs.Hub.{Hub, shown_of}
+use Rattle.st_hub.specs.Hub.{Hub}
+use Rattle.st_end.specs.Totals.{totals}
 use Rattle.st_hub.specs.Trying.{HadMemory, AllTried}
 use Rattle.st_hub.proofs.Totals.{totals_rise}
 use Rattle.st_hub.proofs.hub.HubState.pump.Goals as goal
 
 pub publish-requires : goal.publish-requires
-publish-requires g c = subst (λ t. IsUpTo t (shown_of c.pump-pumped.new.self.flow.core)) (sym c.self.invariant.0) (totals_rise _ _ c.pump-pumped.ensures.rises)
+publish-requires g c = subst (λ t. IsUpTo t (totals c.pump-pumped.new.self.flow.core)) (sym c.self.invariant.0) (totals_rise _ _ c.pump-pumped.ensures.rises)
 
 pub invariant_of-self : goal.invariant_of-self
 invariant_of-self g c =

@@ -1,12 +1,12 @@
 use Rattle.std.proofs.Common.{subst, sym}
 use Rattle.st_queues.specs.Watching.{IsUpTo}
-use Rattle.st_hub.specs.Hub.{shown_of}
+use Rattle.st_end.specs.Totals.{totals}
 use Rattle.st_hub.proofs.Expiries.{goes_expires}
 use Rattle.st_hub.proofs.Totals.{totals_rise, keeps_rises}
 use Rattle.st_hub.proofs.hub.HubState.take_unsealed.Goals as goal
 
 pub publish-requires : goal.publish-requires
-publish-requires g c = subst (λ t. IsUpTo t (shown_of c.send_unsealed-sent.new.self.flow.core)) (sym c.self.invariant.0) (totals_rise _ _ (keeps_rises 0 _ _ c.send_unsealed-sent.ensures.keeps))
+publish-requires g c = subst (λ t. IsUpTo t (totals c.send_unsealed-sent.new.self.flow.core)) (sym c.self.invariant.0) (totals_rise _ _ (keeps_rises 0 _ _ c.send_unsealed-sent.ensures.keeps))
 
 pub turn_at-requires : goal.turn_at-requires
 turn_at-requires g c =

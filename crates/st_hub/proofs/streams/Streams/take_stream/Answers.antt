@@ -5,7 +5,13 @@ use Rattle.st_hub.specs.Handing.{IsLeft, TakesLeft}
 use Rattle.st_hub.specs.Inside.{flow_of}
 use Rattle.st_hub.proofs.EndEvents.{keeps_same}
 use Rattle.st_hub.proofs.Handings.{ends_sound}
+use Rattle.st_streams.proofs.StreamNumbers.{some_stream, stream_is}
 use Rattle.st_hub.proofs.streams.Streams.take_stream.Goals as goal
+
+pub unwrap-stream-requires : goal.unwrap-stream-requires
+unwrap-stream-requires g c =
+    let f = c.in_ok-place.ensures.found in
+    some_stream c.new.result _ c.new.ensures (omega arith, omega (arith, f.0))
 
 pub ends-writer-requires-clause-held : goal.ends-writer-requires-clause-held
 ends-writer-requires-clause-held g c =
@@ -30,8 +36,9 @@ returns-clause-taken g c =
     let f = c.in_ok-place.ensures.found in
     let e = c.ends-writer.ensures in
     let paired = c.self.invariant.paired p f.0 in
+    let number = stream_is c.new.result (p + 1) c.unwrap-stream.result c.unwrap-stream.ensures c.new.ensures in
     let b = flow_of c.self.inside.core c.ends-writer.new.writes.items c.ends-writer.new.reads.items in
-    subst (λ (a : Beside _). (s : ℕ) × TakesLeft a.flow b (p + 1) c.ends-writer.result.0 c.ends-writer.result.1 s) c.self.view_is (
+    subst (λ (a : Beside _). (s : ℕ) × TakesLeft a.flow b c.unwrap-stream.result c.ends-writer.result.0 c.ends-writer.result.1 s) c.self.view_is (
       c.from.result,
       record {
         left = subst (λ n. IsLeft (flow_of c.self.inside.core c.self.inside.writes.items c.self.inside.reads.items) n) (sym is) (record { peers = λ own. both_ways _ (paired.own own (inl f.1)) f.2; is_open = f.1; writer = paired.both ∙ f.2; reader = f.2 });
@@ -39,7 +46,7 @@ returns-clause-taken g c =
         same = refl;
         handed = record {
           place = omega (arith, f.0, is);
-          number_is = omega (arith, is);
+          number_is = omega (arith, is, number.0);
           fresh_writer = e.fresh.0;
           fresh_reader = e.fresh.1;
           after = λ i. record { core = c.self.inside.core; inlets = e.out.0 i; outlets = e.out.1 i };

@@ -23,8 +23,8 @@ invariant_of-self g c = (c.self.invariant.0, length-set c.self.inside.windows.it
 pub returns-then-stream-ge65-clause-stays : goal.returns-then-stream-ge65-clause-stays
 returns-then-stream-ge65-clause-stays g c = λ k ready. ready
 
-pub returns-then-has_stream-clause-stays : goal.returns-then-has_stream-clause-stays
-returns-then-has_stream-clause-stays g c = λ k ready. ready
+pub returns-then-is_open-clause-stays : goal.returns-then-is_open-clause-stays
+returns-then-is_open-clause-stays g c = λ k ready. ready
 
 pub returns-then-is_some-clause-stays : goal.returns-then-is_some-clause-stays
 returns-then-is_some-clause-stays g c = λ k ready. ready
