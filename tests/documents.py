@@ -59,7 +59,6 @@ OTHERS = {
     },
     "numbers of errors of Linux": {"ilpstream_serving": "EMFILE ENFILE"},
     "numbers that calls return": {"host_objects": "DONE IDLE MISUSE ARGUMENT ROOM UNKNOWN ENDED ABORTED ONWARD"},
-    "the number of the one stream that `send` and `receive` use": {"ilpstream_ends": "STREAM"},
 }
 
 

@@ -638,17 +638,22 @@ def fulfillments_are_kept_where_asked(play):
 @test()
 def a_table_of_fulfillments_that_was_changed(play):
     hub = Hub(play, f"{play.room}/books")
-    hub.served(words=[KEEP])
-    in_one_file(hub.path)
-    plain, rows = without_sums(hub.path, f"{play.room}/plain"), proofs_in(hub.path, play.room)
+    for _ in range(5):
+        hub.served(words=[KEEP])
+        in_one_file(hub.path)
+        rows = proofs_in(hub.path, play.room)
+        if len(rows) > 1:
+            break
+    want(len(rows) > 1, f"in five lives {len(rows)} lines were kept")
+    plain, first, second = without_sums(hub.path, f"{play.room}/plain"), rows[0][0], rows[1][0]
     fill = [f"INSERT INTO fulfillment VALUES ({id}, '{name}', X'{condition.hex()}', X'{proof.hex()}', {amount}, {moment})" for id, name, condition, proof, amount, moment in rows[:9]]
     with_sqlite(plain, *fill)
     want(books_of(plain)[0] == "0", "books with fulfillments are not read")
     kinds = {
         "lines that were removed": ("DELETE FROM fulfillment WHERE id < 5", "0"),
         "no line": ("DELETE FROM fulfillment", "0"),
-        "an id below 0": ("UPDATE fulfillment SET id = -3 WHERE id = 1", "110"),
-        "an amount below 0": ("UPDATE fulfillment SET amount = -3 WHERE id = 2", "110"),
+        "an id below 0": (f"UPDATE fulfillment SET id = -3 WHERE id = {first}", "110"),
+        "an amount below 0": (f"UPDATE fulfillment SET amount = -3 WHERE id = {second}", "110"),
     }
     for kind, (statement, wanted) in kinds.items():
         other = copied(plain, f"{play.room}/other")

@@ -131,13 +131,13 @@ def all_is_printed_that_explains(play, number):
 
 # Faults of each command, by their first lines.
 FIRST_LINES = [
-    ("90", "ilpstream_frames Fault::Input, in frames, local, send, connector"),
+    ("90", "ilpstream_output Fault::Input, in frames, local, send, connector"),
     ("58", "ilpstream_local LocalFault::Failed, in local"),
     ("58", "ilpstream_serving TransferError::Failed, in send"),
     ("88", "ilpstream_serving TransferError::Silent, in receive"),
     ("96", "ilpstream_net RunError::BadTable, in connector"),
     ("116", "st_hop_books BooksError::NoAccount, in ledger"),
-    ("91", "ilpstream_frames Fault::Output, in frames, local, send, receive, connector, ledger, explain"),
+    ("91", "ilpstream_output Fault::Output, in frames, local, send, receive, connector, ledger, explain"),
 ]
 
 
