@@ -1,14 +1,15 @@
 #!/usr/bin/env python3
 """Checks how the scripts in Python of tests and tools are written. Each file begins with a docstring, and a function has at most
 40 lines. Imports are at the top, one module a line, and each name that is imported is used. `ruff check` finds more, by ruff.toml: if
-ruff is not installed, that is skipped, and a line says so. Each finding is a line; the last line counts the files without and with a
-finding."""
+ruff is not installed, that is skipped, and a line says so. The files of the crates have the layout that `rattle fmt` writes: `rt ci`
+asks for it crate by crate, and this test for all in some seconds. Each finding is a line; the last line counts the files without and
+with a finding."""
 import ast
 import re
 import shutil
 import subprocess
 
-from repository import TOP, files, read
+from repository import TOP, files, kit, read, read_crates
 
 LINES = 40  # of a function
 FUNCTIONS = (ast.FunctionDef, ast.AsyncFunctionDef)
@@ -74,6 +75,14 @@ def by_ruff():
     return found or ({"ruff.toml": [f": ruff: {ran.stdout}{ran.stderr}"]} if ran.returncode else {})
 
 
+def out_of_layout():
+    """How many files the crates have, and what is said of those that `rattle fmt` would change."""
+    paths = [path for crate in read_crates() for part in ("src", "specs", "proofs") for end in ("rt", "antt") for path in files(f"crates/{crate}/{part}/**/*.{end}")]
+    ran = subprocess.run([f"{kit()}/bin/rattle", "fmt", "--check", *paths], cwd=TOP, capture_output=True, text=True, timeout=120, check=False)
+    found = [it for it in (ran.stdout + ran.stderr).splitlines() if it]
+    return len(paths), found if ran.returncode else []
+
+
 def main():
     for text, wanted in PLANTED.items():
         found = sorted(told for _, told in findings(text))
@@ -89,6 +98,9 @@ def main():
     for path, found in others.items():
         print("".join(f"{path}{it}\n" for it in found), end="")
     failed += len(others)
+    laid_out, others = out_of_layout()
+    print("".join(f"{it}\n" for it in others), end="")
+    passed, failed = passed + laid_out - len(others), failed + len(others)
     print(f"{passed} passed, {failed} failed")
     return 1 if failed else 0
 
