@@ -3,8 +3,9 @@
 
 The prover is called by itself, since `rt` works on one crate at a time if two have a crate below them in common. It writes
 a library, into crates/NAME/out/built, and the program of crates that are proved alone. Each crate is proved once those below it
-are. Of those that can begin, the one with the longest chain of crates above it begins first. A crate gets a second job while
-processors are idle. With more than four processors it may get a third, and a crate on the longest chain of all always has two.
+are. Of those that can begin, the one with the longest chain of crates above it begins first. A crate gets
+further jobs while processors are idle, up to four. With more than four processors it gets up to three, and a crate on the longest
+chain of all always has two.
 JOBS=N uses N processors. A crate that is not proved ends the build with its log. The program is for processors of this one's
 level; LEVEL=v2 and LEVEL=v3 ask for x86-64-v2 and x86-64-v3. `tools/build.py --plan N` prints what the weights below give for N
 processors."""
@@ -22,10 +23,10 @@ PROGRAM = "ilpstream"
 # The processor's seconds that each crate takes from nothing, four at a time, by the table in docs/GATE.md; those that are not here take OTHER.
 # The gate compiles the program twice, so here it has half of what is in that table.
 WEIGHTS = {
-    "st_hop_books": 752, "ilpstream_net": 726, "st_sender": 607, "ilpstream_words": 571, "ilpstream_ends": 485, "st_hub": 448,
+    "st_hop_books": 752, "st_sender": 607, "ilpstream_words": 571, "ilpstream_net": 520, "ilpstream_ends": 485, "st_hub": 448,
     "st_world": 429, "st_end": 343, "ilpstream_settings": 341, "ilpstream_log": 333, "st_receiver": 318, "st_hop": 291,
     "st_world_parts": 288, "ilpstream_connector": 269, "ilpstream_frames": 262, "ilpstream_local": 257, "ilpstream_serving": 249,
-    "st_http": 234, "st_aes": 233, "st_hop_desk": 231, "ilpstream_main": 222, "ilpstream": 217, "ilpstream_ledger": 185,
+    "ilpstream_transfer": 240, "st_http": 234, "st_aes": 233, "st_hop_desk": 231, "ilpstream_main": 222, "ilpstream": 217, "ilpstream_ledger": 185,
     "st_unacked": 171, "st_ilp": 153, "st_queues": 146, "st_frames": 146, "st_reassembly": 125, "st_oer": 103, "st_file": 91,
     "st_lanes": 74, "st_keys": 69, "st_devices": 68, "st_links": 53, "ilpstream_explain": 39, "ilpstream_output": 33,
     "st_streams": 29,
@@ -37,7 +38,7 @@ CHECK, JOB = 3_500_000_000, 1_000_000_000
 # make better use of the processors, up to this number of them.
 FEW, FURTHER = 4, 0.33
 # The most jobs of a crate, with so few processors and with more.
-MOST_OF_FEW, MOST_JOBS = 2, 3
+MOST_OF_FEW, MOST_JOBS = 4, 3
 # A crate is urgent if the longest chain through it is this part of the longest of all.
 URGENT = 0.93
 # What a processor of level x86-64-v3 has in addition to those of level 2: with vectors of 32 bytes the cipher is twice as fast.

@@ -3,7 +3,7 @@ use Rattle.std.specs.Prelude.{◌<◌, ◌≤◌, ⊤}
 use Rattle.ilpstream_settings.specs.declared.settings.LocalSettings.{LocalSettings}
 use Rattle.ilpstream_words.specs.declared.request.Request.{Request}
 use Rattle.ilpstream_words.specs.declared.request.Request.TheVariants as request
-use Rattle.ilpstream_net.specs.Settings.{IsReceiver, IsSender}
+use Rattle.ilpstream_transfer.specs.Settings.{IsReceiver, IsSender}
 
 -- a chain of at most 8 hops, with 1 to 32 streams
 pub record IsChain (s : LocalSettings) : Type 0 where

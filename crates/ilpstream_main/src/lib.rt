@@ -2,8 +2,8 @@
 //!
 //! `run` is given the arguments, a reader, a writer and a writer for errors, the runtime that gives files, sockets, threads
 //! and the time, and what opens books. What the arguments mean is in specs/Words.antt of ilpstream_words; what the program answers
-//! is in specs/. `ilpstream` calls it with the arguments and the standard streams of a process. The commands `send`, `receive` and
-//! `connector` are in ilpstream_net.
+//! is in specs/. `ilpstream` calls it with the arguments and the standard streams of a process. The command `connector`
+//! is in ilpstream_net, and `send` and `receive` are in ilpstream_transfer.
 #![tactic(auto)]
 
 mod error;

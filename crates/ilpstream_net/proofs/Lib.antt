@@ -2,4 +2,3 @@ pub mod Pieces
 pub mod Totalled
 pub mod Tables
 pub mod Restoring
-pub mod Transfers

@@ -1,5 +1,5 @@
 -- The lines of accounts, and how a command ends that wrote its totals.
-use Rattle.std.proofs.Common.{◌≡◌, ◌≢◌, ℕ, suc, ◌+◌, ◌<◌, List, [], ◌∷◌, ◌++◌, length, take, get_or, Option, refl, sym, ap, subst, ◌∙◌, ◌⊎◌, append_assoc, arith, inl, inr}
+use Rattle.std.proofs.Common.{◌≡◌, ℕ, suc, ◌+◌, ◌<◌, List, [], ◌∷◌, ◌++◌, length, take, get_or, Option, refl, sym, ap, subst, ◌∙◌, ◌⊎◌, append_assoc, arith, inl, inr}
 use Rattle.std.specs.Prelude.{Result, Ok, Err, Some, None}
 use Rattle.std.specs.Io.KnownBytes.{Appends}
 use Rattle.std.specs.Borrow.{Bor}
@@ -63,15 +63,6 @@ pub table_told : (table : Option (Bor (List ℕ))) (own : List ℕ) (ledger : Op
     → EndsByTable table own ledger input r s Q ended → (told : Result (Unit {0}) Fault) × (result ≡ ended_with ended told) → EndsByTable table own ledger input r s Q result
 table_told None own ledger input r s Q ended result by told = ends_logged own ledger input r s Q ended result by told
 table_told (Some file) own ledger input r s Q ended result (q, by) (told, is) = (q, subst (EndsByFile own ledger) (sym is) (file_with own ledger ended told by))
-
-not_bad : (ended : Result (Unit {0}) RunError) (told : Result (Unit {0}) Fault) → ended ≢ Err run.BadOption → ended_with ended told ≢ Err run.BadOption
-not_bad (Err e) told none wrong = none wrong
-not_bad (Ok x) (Ok y) none wrong = absurd (cc)
-not_bad (Ok x) (Err fault) none wrong = absurd (cc)
-
--- a command does not end as one with a bad option because its totals were written
-pub never_bad : (ended result : Result (Unit {0}) RunError) → ended ≢ Err run.BadOption → (told : Result (Unit {0}) Fault) × (result ≡ ended_with ended told) → result ≢ Err run.BadOption
-never_bad ended result none (told, is) wrong = not_bad ended told none (sym is ∙ wrong)
 
 -- what holds if an option is bad, holds of a command that wrote to its log
 pub logged : (ended result : Result (Unit {0}) RunError) (P : Type 0) → (ended ≡ Err run.BadOption → P) → (told : Result (Unit {0}) Fault) × (result ≡ ended_with ended told) → result ≡ Err run.BadOption → P

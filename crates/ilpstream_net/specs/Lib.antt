@@ -1,12 +1,8 @@
 pub mod Errors
 pub mod Input
-pub mod Credentials
-pub mod Settings
 pub mod Table
 pub mod Restored
 pub mod Totals
-pub mod Progress
 pub mod Obstacles
 pub mod Control
-pub mod Transfers
 pub mod Ways

@@ -1,7 +1,6 @@
 -- The totals that a command writes to a file, and how it ends then.
 use Rattle.std.specs.Prelude.{◌≡◌, ℕ, suc, List, [], ◌∷◌, ◌++◌, nat_eq, if◌then◌else◌, codes, decimal, Option, Some, None, Result, Ok, Err, ⊤}
 use Rattle.ilpstream_output.specs.declared.error.Fault.{Fault}
-use Rattle.st_end.specs.Totals.{Totals}
 use Rattle.ilpstream_connector.specs.declared.accounts.AccountTotals.{AccountTotals}
 use Rattle.ilpstream_connector.specs.declared.counts.AccountCounts.{AccountCounts}
 use Rattle.ilpstream_connector.specs.declared.counts.CodeCount.{CodeCount}
@@ -9,11 +8,6 @@ use Rattle.ilpstream_net.specs.declared.counts.Line.{Line}
 use Rattle.ilpstream_net.specs.declared.counts.Line.TheVariants as lines
 use Rattle.ilpstream_net.specs.declared.error.RunError.{RunError}
 use Rattle.ilpstream_net.specs.declared.error.RunError.TheVariants as run
-
--- a line of its own for each of an end's totals: `accepted 70000` and a newline, and so on
-abbrev pub totals_text : Totals → List ℕ
-totals_text t = codes "accepted " ++ decimal t.accepted ++ codes "\ndelivered " ++ decimal t.delivered
-    ++ codes "\ncredited " ++ decimal t.credited ++ codes "\npaid " ++ decimal t.paid ++ 10 ∷ []
 
 -- the line of the account of this number: `account 0 claims 500 dues 0 held 0` and a newline
 unfoldable pub account_text : (number : ℕ) → AccountTotals → List ℕ

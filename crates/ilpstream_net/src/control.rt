@@ -7,16 +7,13 @@ ghost use Rattle.ilpstream_net.specs.declared.error.RunError.TheVariants.{BadOpt
 use crate::error::RunError;
 use crate::log::{Log, reopen, tell};
 use crate::obstacle::{Cause, Obstacle, Step, back, cause_of};
-use crate::progress::Teller;
-use crate::totals::put_totals_now;
-use ilpstream_log::{Blocked, Brief, Event, Heard};
-use ilpstream_serving::{Watch, without_waits};
-use st_end::Totals;
+use ilpstream_log::{Event, Heard};
+use ilpstream_serving::without_waits;
 use std::alloc::Global;
 use std::fs::{File, Files, OpenOptions};
 use std::io::Read;
 use std::os::unix::fs::FileTypeExt;
-use std::time::{Clock, Duration};
+use std::time::Clock;
 
 /// How many bytes of a line are kept. A longer one asks for nothing.
 const MOST_LINE: usize = 256;
@@ -24,15 +21,9 @@ const MOST_LINE: usize = 256;
 /// How many bytes are read at one look at most.
 const MOST_BYTES: u32 = 4_096;
 
-/// How many lines there may be at one look of a receiver.
-const MOST_LINES: u32 = 64;
-
-/// How many milliseconds pass between two looks of a receiver.
-const LOOK_MILLIS: u64 = 200;
-
 /// What a line asks for.
 #[derive(Clone, Copy, Debug, PartialEq, Eq)]
-pub(crate) enum Asked {
+pub enum Asked {
     /// To accept no further connection, to finish what is open, and to end.
     Stop,
     /// To write the totals now.
@@ -74,7 +65,7 @@ fn known(has_table: bool, asked: Option<Asked>) -> Option<Asked>
 
 /// The pipe by which a command is asked things while it runs.
 #[derive(Drop)]
-pub(crate) struct Control<'a, N> {
+pub struct Control<'a, N> {
     rt: &'a N,
     alloc: Global,
     pipe: File,
@@ -105,7 +96,7 @@ fn open_pipe<N: Files<File = File>>(rt: &N, name: &str) -> Result<File, Cause> {
 
 /// Opens the pipe of this name, if one was asked for. Fails with `BadOption` if there is no such pipe, or it cannot be
 /// opened.
-pub(crate) fn pipe_of<'a, N: Files<File = File>>(
+pub fn pipe_of<'a, N: Files<File = File>>(
     rt: &N,
     name: Option<&'a str>,
     obstacle: &mut Option<Obstacle<'a>>,
@@ -129,7 +120,7 @@ pub(crate) fn pipe_of<'a, N: Files<File = File>>(
 
 impl<'a, N: Files<File = File> + Clock> Control<'a, N> {
     /// The lines of this pipe, of which none was read.
-    pub(crate) fn new(
+    pub fn new(
         rt: &'a N,
         alloc: Global,
         pipe: File,
@@ -201,7 +192,7 @@ impl<'a, N: Files<File = File> + Clock> Control<'a, N> {
 
     /// The next line, if it was written to its end, and what it asks for. What it asks of the log is done at once. Does not
     /// wait.
-    pub(crate) fn next(&mut self) -> Option<Option<Asked>> {
+    pub fn next(&mut self) -> Option<Option<Asked>> {
         if self.is_whole {
             self.line.clear();
             self.is_whole = false;
@@ -213,75 +204,5 @@ impl<'a, N: Files<File = File> + Clock> Control<'a, N> {
         let asked = known(self.has_table, asked_by(self.line.as_slice()));
         self.hear(asked);
         Some(asked)
-    }
-}
-
-/// Reports the progress of a receiver, and reads what it is asked while it runs.
-#[derive(Drop)]
-pub(crate) struct Directed<'a, N> {
-    teller: Teller<'a, N>,
-    pub(crate) control: Option<Control<'a, N>>,
-    /// The name of the file for its totals, if there is one.
-    totals: Option<&'a str>,
-    is_stopped: bool,
-}
-
-impl<'a, N: Files<File = File> + Clock> Directed<'a, N> {
-    /// The reports of this teller, and what is asked by this pipe, if there is one.
-    pub(crate) fn new(
-        teller: Teller<'a, N>,
-        control: Option<Control<'a, N>>,
-        totals: Option<&'a str>,
-    ) -> Directed<'a, N>
-        ensures { result.control ≡ control.entry }
-    {
-        Directed {
-            teller,
-            control,
-            totals,
-            is_stopped: false,
-        }
-    }
-
-    /// Does what is asked.
-    fn obey(&mut self, totals: &Totals) {
-        for _ in 0..MOST_LINES {
-            let Some(control) = &mut self.control else {
-                return;
-            };
-            match control.next() {
-                None => return,
-                Some(Some(Asked::Stop)) => self.is_stopped = true,
-                Some(Some(Asked::Totals)) => {
-                    put_totals_now(control.rt, control.alloc, self.totals, totals);
-                    self.teller.tell_now(totals);
-                }
-                Some(_) => {}
-            }
-        }
-    }
-}
-
-impl<N: Files<File = File> + Clock> Watch for Directed<'_, N> {
-    fn period(&self) -> Option<Duration> {
-        let period = self.teller.period();
-        if self.control.is_none() {
-            return period;
-        }
-        let look = Duration::from_millis(LOOK_MILLIS);
-        Some(period.map_or(look, |period| period.min(look)))
-    }
-
-    fn look(&mut self, totals: &Totals, waits: Option<Blocked>, last: Option<Brief>) {
-        self.teller.look(totals, waits, last);
-        self.obey(totals);
-    }
-
-    fn is_stopped(&self) -> bool {
-        self.is_stopped
-    }
-
-    fn end(&mut self) {
-        self.teller.end();
     }
 }

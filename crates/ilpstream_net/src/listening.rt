@@ -1,7 +1,7 @@
 //! The address at which a command listens.
 
 use crate::log::{Log, tell};
-use crate::progress::put_terminal;
+use crate::terminal::put_terminal;
 use ilpstream_log::Event;
 use std::alloc::Global;
 use std::net::TcpListener;
@@ -10,7 +10,7 @@ use std::time::Clock;
 /// Reports the address at which a command listens, with the port that the system chose in place of 0. It is written to the
 /// log, if there is one, and to standard error, if that is asked for. Nothing is reported if the system does not return the
 /// address.
-pub(crate) fn tell_listening<N: Clock>(
+pub fn tell_listening<N: Clock>(
     rt: &N,
     alloc: Global,
     log: Log<'_>,

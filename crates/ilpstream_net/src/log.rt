@@ -21,7 +21,7 @@ use std::os::unix::fs::FileTypeExt;
 use std::time::Clock;
 
 /// The log of a run, if it has one.
-pub(crate) type Log<'a> = Option<&'a LogFile>;
+pub type Log<'a> = Option<&'a LogFile>;
 
 /// The greatest number of a neighbour whose lines are counted by themselves.
 const LAST: u32 = 255;
@@ -68,7 +68,7 @@ fn log_file<'a, N: Files<File = File>>(
 
 /// The log in the file of this name, if one was asked for. Its lines are appended to what the file has. Fails with
 /// `BadOption` if the file cannot be opened, and with a fault if memory is refused.
-pub(crate) fn journal<'a, N: Files<File = File>>(
+pub fn journal<'a, N: Files<File = File>>(
     rt: &N,
     alloc: Global,
     name: Option<&'a str>,
@@ -116,19 +116,19 @@ fn now(rt: &impl Clock) -> Moment {
 }
 
 /// Writes the line of an event of the command itself that happens now, if there is a log.
-pub(crate) fn tell<N: Clock>(rt: &N, log: Log<'_>, event: &Event<'_>) {
+pub fn tell<N: Clock>(rt: &N, log: Log<'_>, event: &Event<'_>) {
     if let Some(journal) = log {
         journal.note(rt, now(rt), 0, event);
     }
 }
 
 /// Writes the totals of an end, if there is a log.
-pub(crate) fn tell_end<N: Clock>(rt: &N, log: Log<'_>, totals: &st_end::Totals) {
+pub fn tell_end<N: Clock>(rt: &N, log: Log<'_>, totals: &st_end::Totals) {
     tell(rt, log, &Event::End(*totals));
 }
 
 /// Writes the totals of an end so far, and what was left out before, if there is a log.
-pub(crate) fn tell_minute<N: Clock>(rt: &N, log: Log<'_>, totals: &st_end::Totals) {
+pub fn tell_minute<N: Clock>(rt: &N, log: Log<'_>, totals: &st_end::Totals) {
     tell_end(rt, log, totals);
     if let Some(journal) = log {
         journal.catch_up(rt, now(rt));
@@ -253,7 +253,7 @@ fn written(journal: &LogFile) -> Result<(), Fault> {
 
 /// Writes how a command ended, and why, if there is a log. Returns the result of the command: its own error or, if it has
 /// none, that the log failed.
-pub(crate) fn tell_run<N: Clock>(
+pub fn tell_run<N: Clock>(
     rt: &N,
     alloc: Global,
     log: Log<'_>,

@@ -2,6 +2,7 @@
 
 ghost use Rattle.std.specs.Prelude.{◌≡◌, IfOk, string_bytes};
 ghost use Rattle.ilpstream_net.specs.Obstacles as spec;
+ghost use Rattle.ilpstream_net.specs.declared.obstacle.Cause.TheVariants.{BadLine};
 ghost use Rattle.ilpstream_net.specs.declared.obstacle.Step.TheVariants.{Listen};
 
 use crate::error::RunError;
@@ -11,7 +12,7 @@ use std::io::ErrorKind;
 
 /// What a command could not do.
 #[derive(Clone, Copy, Debug, PartialEq, Eq)]
-pub(crate) enum Step {
+pub enum Step {
     /// Listen at an address.
     Listen,
     /// Open the file of `--log`.
@@ -110,16 +111,24 @@ pub(crate) fn cause_of(error: &io::Error) -> Cause {
 
 impl<'a> Obstacle<'a> {
     /// A file that could not be opened.
-    pub(crate) fn of_file(step: Step, name: &'a str, error: &io::Error) -> Obstacle<'a>
+    pub fn of_file(step: Step, name: &'a str, error: &io::Error) -> Obstacle<'a>
         ensures { (result.step ≡ step) × (result.name ≡ name.entry) }
     {
         let cause = cause_of(error);
         Obstacle { step, name, cause }
     }
 
+    /// A file whose first line is bad.
+    pub fn of_bad_line(step: Step, name: &'a str) -> Obstacle<'a>
+        ensures { (result.step ≡ step) × (result.name ≡ name.entry) × (result.cause ≡ BadLine) }
+    {
+        let cause = Cause::BadLine;
+        Obstacle { step, name, cause }
+    }
+
     /// An address at which the command could not listen. An error without a number of the system means that a host's name
     /// is unknown.
-    pub(crate) fn of_address(name: &'a str, error: &io::Error) -> Obstacle<'a>
+    pub fn of_address(name: &'a str, error: &io::Error) -> Obstacle<'a>
         ensures { (result.step ≡ Listen) × (result.name ≡ name.entry) }
     {
         let cause = match cause_of(error) {

@@ -1,11 +1,9 @@
-//! The file to which a command writes its totals.
+//! The file to which a connector writes its totals.
 
 ghost use Rattle.std.specs.Prelude.{◌≡◌, ◌⊎◌, IfErr, IfOk, IsNone, IsSome, OnErr, OnOk, Result, string_bytes, vec_len};
 ghost use Rattle.std.specs.Io.KnownBytes.{Appends};
 ghost use Rattle.st_devices.specs.Tallies.{device_of};
 ghost use Rattle.ilpstream_net.specs.Totals as spec;
-ghost use Rattle.ilpstream_net.specs.Transfers.{IsToldIn};
-ghost use Rattle.ilpstream_ends.specs.Outcomes.{no_totals};
 ghost use Rattle.ilpstream_net.specs.declared.error.RunError.TheVariants.{BadOption, Fault as IsFault};
 ghost use Rattle.ilpstream_output.specs.declared.error.Fault.TheVariants.{NoMemory};
 
@@ -16,9 +14,7 @@ use crate::obstacle::{Obstacle, Step};
 use ilpstream_connector::{AccountTotals, Counts, Minutes};
 use ilpstream_output::{Fault, TURNS, put};
 use st_devices::CountWrite;
-use st_end::Totals;
 use std::alloc::{AllocError, Global};
-use std::fs;
 use std::fs::{File, Files};
 use std::io::Write;
 
@@ -57,40 +53,6 @@ pub struct Telling<'a, N> {
     place: Option<TotalsPlace<'a, N>>,
 }
 
-/// Creates or empties the file of this name, if one was asked for. Fails with `BadOption` if it cannot be opened.
-pub(crate) fn totals_file<'a, N: Files<File = File>>(
-    rt: &N,
-    name: Option<&'a str>,
-    obstacle: &mut Option<Obstacle<'a>>,
-) -> Result<Option<CountWrite<File>>, RunError>
-    ensures none { IsNone name.entry → IfOk result (λ file. IsNone file) }
-    ensures some { IsSome name.entry → IfOk result (λ file. IsSome file) }
-    ensures refused { IfErr result (λ e. e ≡ BadOption) }
-{
-    let Some(name) = name else {
-        return Ok(None);
-    };
-    match File::create(rt, name) {
-        Ok(file) => Ok(Some(CountWrite::new(file))),
-        Err(error) => {
-            *obstacle = Some(Obstacle::of_file(Step::Totals, name, &error));
-            Err(RunError::BadOption)
-        }
-    }
-}
-
-/// The totals of an end that has done nothing.
-pub(crate) fn nothing_yet() -> Totals
-    ensures { result ≡ no_totals }
-{
-    Totals {
-        accepted: 0,
-        delivered: 0,
-        credited: 0,
-        paid: 0,
-    }
-}
-
 /// The totals of `count` accounts, all 0.
 pub(crate) fn places(alloc: Global, count: usize) -> Result<Vec<AccountTotals>, AllocError>
     ensures { IfOk result (λ places. vec_len places ≡ count) }
@@ -104,23 +66,6 @@ pub(crate) fn places(alloc: Global, count: usize) -> Result<Vec<AccountTotals>, 
         })?;
     }
     Ok(places)
-}
-
-/// The lines that report the totals of an end.
-#[tactic(auto, using(crate::proofs::Pieces::pieces))]
-fn totals_text(alloc: Global, totals: &Totals) -> Result<String, AllocError>
-    ensures { IfOk result (λ text. string_bytes text ≡ spec.totals_text totals.now) }
-{
-    let Totals {
-        accepted,
-        delivered,
-        credited,
-        paid,
-    } = *totals;
-    let text = format!(in alloc;
-        "accepted {accepted}\ndelivered {delivered}\ncredited {credited}\npaid {paid}\n"
-    )?;
-    Ok(text)
 }
 
 /// The line that reports the totals of the account of this number.
@@ -180,19 +125,6 @@ fn connector_text(alloc: Global, report: Report<'_>) -> Result<Vec<u8>, AllocErr
     Ok(text)
 }
 
-/// Writes the totals of an end.
-fn put_totals<W: Write>(
-    alloc: Global,
-    file: &mut CountWrite<W>,
-    totals: &Totals,
-) -> Result<(), Fault>
-    ensures { OnOk result (Appends (W.contents (device_of file.old)) (W.contents (device_of file.new)) (spec.totals_text totals.now)) }
-{
-    let text = totals_text(alloc, totals)?;
-    let mut turns = TURNS;
-    put(file, text.as_bytes(), &mut turns)
-}
-
 /// Writes the totals of a connector.
 fn put_accounts<W: Write>(
     alloc: Global,
@@ -222,50 +154,12 @@ fn replace_accounts<W: Write + Drop, P: Place<W>>(
 }
 
 /// The result of a command: its own error, or else that of writing its totals.
-pub(crate) fn ended_with(
-    ended: Result<(), RunError>,
-    told: Result<(), Fault>,
-) -> Result<(), RunError>
+pub fn ended_with(ended: Result<(), RunError>, told: Result<(), Fault>) -> Result<(), RunError>
     ensures { result ≡ spec.ended_with ended told }
 {
     ended?;
     told?;
     Ok(())
-}
-
-/// Writes the totals of an end, if a file was asked for.
-pub(crate) fn tell_totals<W: Write>(
-    alloc: Global,
-    file: &mut Option<CountWrite<W>>,
-    totals: &Totals,
-) -> Result<(), Fault>
-    ensures { IsToldIn W.contents file.old file.new totals.now result }
-{
-    match file {
-        Some(file) => put_totals(alloc, file, totals),
-        None => Ok(()),
-    }
-}
-
-/// Writes the totals of an end so far to its file, if that is a regular one. The totals at its end overwrite them. Their
-/// text is at least as long, since no total falls.
-pub(crate) fn put_totals_now<N: Files<File = File>>(
-    rt: &N,
-    alloc: Global,
-    name: Option<&str>,
-    totals: &Totals,
-) {
-    let Some(name) = name else {
-        return;
-    };
-    match fs::metadata(rt, name) {
-        Ok(found) if found.is_file() => {}
-        _ => return,
-    }
-    if let Ok(file) = File::create(rt, name) {
-        // (what cannot be written now may be at the end)
-        let _ = put_totals(alloc, &mut CountWrite::new(file), totals);
-    }
 }
 
 /// Determines how a connector is to write its totals. If a file of that name exists and is not a regular one, it is opened,

@@ -1,16 +1,14 @@
 //! How the commands `send` and `receive` begin and end.
 
 ghost use Rattle.std.specs.Prelude.{◌≡◌, ◌≢◌, Err, IfErr, IfOk, IsNone, IsSome};
-ghost use Rattle.ilpstream_net.specs.Credentials.{AreOf, IsLawfulToken, WhyNotOpened};
-ghost use Rattle.ilpstream_net.specs.Transfers.{EndsTold};
+ghost use Rattle.ilpstream_transfer.specs.Credentials.{AreOf, IsLawfulToken, WhyNotOpened};
+ghost use Rattle.ilpstream_transfer.specs.Transfers.{EndsTold};
 ghost use Rattle.ilpstream_net.specs.declared.error.RunError.TheVariants.{BadOption};
 
 use crate::credentials::{Credentials, credentials_of};
-use crate::error::RunError;
-use crate::log::{journal, tell, tell_end, tell_run};
-use crate::obstacle::Obstacle;
-use crate::totals::{ended_with, tell_totals, totals_file};
+use crate::totals::{tell_totals, totals_file};
 use ilpstream_log::{Event, Start};
+use ilpstream_net::{Obstacle, RunError, ended_with, journal, tell, tell_end, tell_run};
 use ilpstream_serving::LogFile;
 use ilpstream_settings::{Secret, Token};
 use st_devices::CountWrite;

@@ -1,5 +1,5 @@
 -- What the commands `send` and `receive` are asked for: the end that each runs, the terms of its transfer, and how it ends.
-use Rattle.std.specs.Prelude.{◌≡◌, ◌⊎◌, ℕ, Bool, List, Option, Some, None, IsNone, IsSome, Result, Ok, Err, IfErr, IsErrOf, OnOk, string_bytes}
+use Rattle.std.specs.Prelude.{◌≡◌, ◌⊎◌, ℕ, Bool, true, false, ◌&&◌, if◌then◌else◌, List, Option, Some, None, IsNone, IsSome, Result, Ok, Err, OnOk, string_bytes}
 use Rattle.std.specs.Borrow.{Bor}
 use Rattle.std.specs.Io.KnownBytes.{Appends}
 use Rattle.st_devices.specs.Tallies.{device_of}
@@ -24,10 +24,10 @@ use Rattle.ilpstream_output.specs.declared.error.Fault.{Fault}
 use Rattle.ilpstream_output.specs.declared.error.Fault.TheVariants as fault
 use Rattle.ilpstream_settings.specs.declared.settings.ReceiveSettings.{ReceiveSettings}
 use Rattle.ilpstream_settings.specs.declared.settings.SendSettings.{SendSettings}
-use Rattle.ilpstream_net.specs.Control.{receiver_result}
-use Rattle.ilpstream_net.specs.Credentials.{HasSecret, WhyNotOpened}
-use Rattle.ilpstream_net.specs.Totals.{ended_with, totals_text}
-use Rattle.ilpstream_net.specs.declared.credentials.Credentials.{Credentials}
+use Rattle.ilpstream_transfer.specs.Credentials.{HasSecret, WhyNotOpened}
+use Rattle.ilpstream_net.specs.Totals.{ended_with}
+use Rattle.ilpstream_transfer.specs.Totals.{totals_text}
+use Rattle.ilpstream_transfer.specs.declared.credentials.Credentials.{Credentials}
 use Rattle.ilpstream_net.specs.declared.error.RunError.{RunError}
 use Rattle.ilpstream_net.specs.declared.error.RunError.TheVariants as run
 
@@ -72,6 +72,26 @@ pub record AreTermsIn (s : ReceiveSettings) (c : Credentials) (t : ReceiveTerms)
 abbrev pub sender_result : Result ℕ TransferError → Result (Unit {0}) RunError
 sender_result (Ok n) = Ok tt
 sender_result (Err e) = Err (run.Transfer e)
+
+-- there is no further request: none is accepted any more, or none arrived in time
+abbrev pub has_no_request : TransferError → Bool
+has_no_request transfer.Failed = false
+has_no_request transfer.Stalled = false
+has_no_request transfer.Rings = false
+has_no_request transfer.Accept = false
+has_no_request transfer.Turns = true
+has_no_request transfer.Silent = true
+has_no_request transfer.IvFault = false
+has_no_request transfer.NoMemory = false
+has_no_request (transfer.End e) = false
+has_no_request (transfer.Desk e) = false
+has_no_request (transfer.File e) = false
+has_no_request (transfer.Books n) = false
+
+-- how a receiver ends: one that was asked to stop ends well if there is no further request
+abbrev pub receiver_result : Result ℕ TransferError → (stopped : Bool) → Result (Unit {0}) RunError
+receiver_result (Ok n) stopped = Ok tt
+receiver_result (Err e) stopped = if stopped && has_no_request e then Ok tt else Err (run.Transfer e)
 
 -- memory for an end was refused
 abbrev pub LacksEnd : Result (Unit {0}) RunError → Type 0

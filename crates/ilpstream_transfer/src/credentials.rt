@@ -5,13 +5,11 @@ ghost use Rattle.st_devices.specs.Tallies.{device_of, tally_of};
 ghost use Rattle.st_http.specs.Texts as texts;
 ghost use Rattle.ilpstream_output.specs.declared.error.Fault.TheVariants.{NoMemory};
 ghost use Rattle.ilpstream_settings.specs.Sources.{IsSecret, IsToken};
-ghost use Rattle.ilpstream_net.specs.Credentials.{AreOf, ComesOfLine, HasSecret, HasToken, IsLawfulToken, WhyNotOpened};
-ghost use Rattle.ilpstream_net.specs.Credentials as spec;
+ghost use Rattle.ilpstream_transfer.specs.Credentials.{AreOf, ComesOfLine, HasSecret, HasToken, IsLawfulToken, WhyNotOpened};
+ghost use Rattle.ilpstream_transfer.specs.Credentials as spec;
 ghost use Rattle.ilpstream_net.specs.declared.error.RunError.TheVariants.{Fault as IsFault};
 
-use crate::error::RunError;
-use crate::input::read_whole;
-use crate::obstacle::{Cause, Obstacle, Step};
+use ilpstream_net::{Obstacle, RunError, Step, read_whole};
 use ilpstream_output::Fault;
 use ilpstream_settings::{Secret, Token, first_secret, first_token};
 use st_devices::CountRead;
@@ -81,12 +79,6 @@ fn secret_from<R: Read>(alloc: Global, reader: &mut CountRead<R>) -> Result<[u8;
     }
 }
 
-/// The obstacle of a file whose first line is bad.
-fn bad_line<'a>(step: Step, name: &'a str) -> Obstacle<'a> {
-    let cause = Cause::BadLine;
-    Obstacle { step, name, cause }
-}
-
 /// The token that is given, or the one in the first line of its file. With a file, `obstacle` says what is wrong if this
 /// fails. It is set on success too: the caller resets it.
 fn token_of<'a, N: Files<File = File>>(
@@ -106,7 +98,7 @@ fn token_of<'a, N: Files<File = File>>(
     };
     match File::open(rt, name) {
         Ok(file) => {
-            *obstacle = Some(bad_line(Step::TokenFile, name));
+            *obstacle = Some(Obstacle::of_bad_line(Step::TokenFile, name));
             let mut reader = CountRead::new(file.take(MOST));
             token_from(alloc, &mut reader)
         }
@@ -134,7 +126,7 @@ fn secret_of<'a, N: Files<File = File>>(
     };
     match File::open(rt, name) {
         Ok(file) => {
-            *obstacle = Some(bad_line(Step::SecretFile, name));
+            *obstacle = Some(Obstacle::of_bad_line(Step::SecretFile, name));
             let mut reader = CountRead::new(file.take(MOST));
             secret_from(alloc, &mut reader)
         }

@@ -4,24 +4,20 @@ ghost use Rattle.std.specs.Prelude.{◌≡◌, ◌≢◌, Err, IfOk, IsNone, IsO
 ghost use Rattle.st_devices.specs.Tallies.{device_of};
 ghost use Rattle.st_end.specs.declared.error.EndError.TheVariants as refusals;
 ghost use Rattle.ilpstream_serving.specs.declared.error.TransferError.TheVariants as transfer;
-ghost use Rattle.ilpstream_net.specs.Control as spec;
-ghost use Rattle.ilpstream_net.specs.Credentials.{AreOf};
-ghost use Rattle.ilpstream_net.specs.Settings.{IsReceiver};
-ghost use Rattle.ilpstream_net.specs.Transfers.{AreTermsIn, EndsReceive, ReceivesBy, TransfersIn, receiver_end};
+ghost use Rattle.ilpstream_transfer.specs.Credentials.{AreOf};
+ghost use Rattle.ilpstream_transfer.specs.Settings.{IsReceiver};
+ghost use Rattle.ilpstream_transfer.specs.Transfers.{AreTermsIn, EndsReceive, ReceivesBy, TransfersIn, receiver_end, receiver_result};
 ghost use Rattle.ilpstream_net.specs.declared.error.RunError.TheVariants.{BadOption, NoListener, Transfer};
 
-use crate::control::{Control, Directed, pipe_of};
 use crate::credentials::Credentials;
+use crate::directed::Directed;
 use crate::ends::{Asked, Begun, begin, end};
-use crate::error::RunError;
-use crate::listening::tell_listening;
-use crate::log::{Log, tell_run};
-use crate::obstacle::Obstacle;
 use crate::progress::{Side, Teller};
 use crate::send::widest;
 use crate::totals::nothing_yet;
 use ilpstream_ends::{ReceivingEnd, receive_on, server_end};
 use ilpstream_log::Start;
+use ilpstream_net::{Control, Log, Obstacle, RunError, pipe_of, tell_listening, tell_run};
 use ilpstream_output::TURNS;
 use ilpstream_serving::{ReceiveTerms, RuntimeClock, TransferError, Watch};
 use ilpstream_settings::ReceiveSettings;
@@ -150,7 +146,7 @@ fn directed<'r, N: Files<File = File> + std::time::Clock>(
 
 /// The result of a receiver. One that was asked to stop, and has no further request since, ended well.
 fn result_of(ended: Result<u64, TransferError>, is_stopped: bool) -> Result<(), RunError>
-    ensures stopped { result ≡ spec.receiver_result ended is_stopped }
+    ensures stopped { result ≡ receiver_result ended is_stopped }
 {
     match ended {
         Ok(_) => Ok(()),

@@ -3,23 +3,17 @@
 ghost use Rattle.std.specs.Prelude.{◌≡◌};
 ghost use Rattle.std.specs.Duration.{as_nanos};
 ghost use Rattle.std.specs.Time.{instant_nanos};
-ghost use Rattle.ilpstream_net.specs.Progress as spec;
+ghost use Rattle.ilpstream_transfer.specs.Progress as spec;
 
-use crate::log::{Log, tell_minute};
+use crate::totals::put_totals_now;
 use ilpstream_log::{Blocked, Brief, Progress, shown};
+use ilpstream_net::{Log, has_terminal, put_terminal, tell_minute};
 use ilpstream_serving::Watch;
-use libc::net::{POLLOUT, poll};
-use libc::types::pollfd;
-use libc::{isatty, write};
 use st_end::Totals;
 use std::alloc::Global;
 use std::fs;
 use std::fs::{File, Files};
-use std::os::fd::RawFd;
 use std::time::{Clock, Duration, Instant};
-
-/// The descriptor of standard error.
-const STDERR: RawFd = 2;
 
 /// How many milliseconds pass at least between two times that the line is written.
 const LINE_MILLIS: u64 = 250;
@@ -153,23 +147,6 @@ fn is_due(now: Instant, before: Instant, period: Duration) -> bool
     now.duration_since(before).as_nanos() >= period.as_nanos()
 }
 
-/// Whether standard error is a terminal.
-pub fn has_terminal() -> bool {
-    isatty(STDERR) == 1
-}
-
-/// Writes to standard error, if that accepts a text at once: a terminal that was stopped (Ctrl-S) delays nothing.
-pub fn put_terminal(text: &[u8]) {
-    let mut fds = [pollfd {
-        fd: STDERR,
-        events: POLLOUT,
-        revents: 0,
-    }];
-    if poll(&mut fds, 0) > 0 {
-        let _ = write(STDERR, text);
-    }
-}
-
 /// How many bytes standard input has, if it is a regular file.
 pub(crate) fn input_length<N: Files<File = File>>(rt: &N) -> Option<u64> {
     match fs::metadata(rt, "/dev/stdin") {
@@ -204,11 +181,6 @@ impl<'a, N: Clock> Teller<'a, N> {
         }
     }
 
-    /// Writes the totals to the log now, if there is one.
-    pub(crate) fn tell_now(&self, totals: &Totals) {
-        tell_minute(self.rt, self.log, totals);
-    }
-
     /// Writes the line, this long after the start. Returns the marks then.
     fn show(
         &self,
@@ -226,6 +198,14 @@ impl<'a, N: Clock> Teller<'a, N> {
             put_terminal(line.as_bytes());
         }
         span
+    }
+}
+
+impl<N: Files<File = File> + Clock> Teller<'_, N> {
+    /// Writes the totals now: to the file of this name, if one was asked for, and to the log, if there is one.
+    pub(crate) fn put_now(&self, name: Option<&str>, totals: &Totals) {
+        put_totals_now(self.rt, self.alloc, name, totals);
+        tell_minute(self.rt, self.log, totals);
     }
 }
 

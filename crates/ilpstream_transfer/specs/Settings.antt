@@ -4,7 +4,7 @@ use Rattle.st_oer.specs.Address.{is_address}
 use Rattle.st_http.specs.Texts.{is_field_text}
 use Rattle.ilpstream_settings.specs.declared.settings.SendSettings.{SendSettings}
 use Rattle.ilpstream_settings.specs.declared.settings.ReceiveSettings.{ReceiveSettings}
-use Rattle.ilpstream_net.specs.Credentials.{IsLawfulToken}
+use Rattle.ilpstream_transfer.specs.Credentials.{IsLawfulToken}
 
 -- both ends have addresses; the host and a given token may be in a request
 pub record IsSender (s : SendSettings) : Type 0 where

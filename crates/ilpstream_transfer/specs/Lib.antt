@@ -1,0 +1,5 @@
+pub mod Credentials
+pub mod Settings
+pub mod Totals
+pub mod Progress
+pub mod Transfers
