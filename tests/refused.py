@@ -3,8 +3,8 @@
 
 `refused.py CRATE ..` tries those of these crates, `refused.py --all` all. The gate calls `refused.py --gate`: it tries those that
 break a promise (a line `promise:` says which), and then, for ten minutes of the processor, those of one crate, which follows from
-the number of the commit. `refused.py --look` says whether each can be made. It uses the libraries in crates/*/out/rlib that
-`rt ci` left there.
+the number of the commit. `refused.py --look` says whether each can be made, and `refused.py --compile [CRATE ..]` whether each
+compiles, and proves nothing. It uses the libraries in crates/*/out/rlib that `rt ci` left there.
 
 Edits of different functions are made in one copy, since each function is proved by itself, and these functions alone are proved.
 An edit is refused if the prover reports, in the function that it changes, what is not proved. If it reports nothing there,
@@ -31,6 +31,8 @@ FUNCTION = re.compile(r"( *)(?:pub(?:\([a-z]+\))? )?(?:const )?(?:unsafe )?(?:ex
 IMPL = re.compile(r"( *)(?:unsafe )?impl\b(.*)")
 # A proof file names what the edit took away: that says little of the contract.
 NAMES = re.compile(r"has no field|is not in scope|has no `|was not admitted")
+# A function that no crate has: a check of it alone ends once the crate is compiled.
+NONE, HAS_NONE = "no_function_of_this_name", "has no function"
 # A limit of the prover, which it meets wherever it checks the same.
 LIMITS = re.compile(r"antt ran out of (stack|the (steps|memory) that)|(outgrew the memory limit|stopped at the step limit) \(")
 
@@ -186,6 +188,16 @@ class Prover:
             output.seek(0)
             return output.read().split("\n"), ran.returncode
 
+    def unread(self, group, kept):
+        """Those of a group that do not compile."""
+        said, _ = self.check(group, kept, [NONE])
+        if any(HAS_NONE in it for it in said):
+            return []
+        found = [it for it in group if is_unread(it, said)] or (group if len(group) == 1 else [])
+        rest = [it for it in group if it not in found]
+        again = [rest] if found else [[it] for it in rest]
+        return found + [bad for it in again if it for bad in self.unread(it, kept)]
+
     def attempt(self, group, kept, budget=None):
         """The outcome of each edit of a group, by its name. A budget, in seconds of the processor, leaves out some of those that have
         to be tried alone."""
@@ -258,20 +270,32 @@ def try_crate(crate, edits, budget=None):
     return found
 
 
+def compile_crate(crate, edits):
+    """Whether each of some edits of one crate compiles. Nothing is proved."""
+    prover, found = Prover(crate), Tried(crate, tried=len(edits))
+    if prover.lacking:
+        return Tried(crate, [f"{crate}: {prover.lacking[0]} was not built here: run rt ci"], 0, len(edits))
+    with tempfile.TemporaryDirectory(prefix="rt-edit-") as kept:
+        bad = [it for group in batches(edits) for it in prover.unread(group, kept)]
+    found.lines = [f"{it}: NOT COMPILED" for it in bad]
+    found.refused, found.seconds = len(edits) - len(bad), prover.spent
+    return found
+
+
 def lanes():
     with open("/proc/meminfo", encoding="ascii") as lines:
         free = next(1024 * int(line.split()[1]) for line in lines if line.startswith("MemAvailable:"))
     return max(min(len(os.sched_getaffinity(0)), free // 4_500_000_000), 1)
 
 
-def try_all(edits, others=()):
+def try_all(edits, others=(), how=try_crate):
     """Tries edits, crates side by side, those of the highest first, and prints the outcome of each. Before them it begins with others,
     a crate and its edits, for the time of a rotation."""
     order = repository.read_crates()
     by_crate = {crate: [it for it in edits if it.crate == crate] for crate in reversed(order)}
     with concurrent.futures.ThreadPoolExecutor(lanes()) as pool:
         works = [pool.submit(try_crate, *others, budget=ROTATION)] if others else []
-        works += [pool.submit(try_crate, crate, found) for crate, found in by_crate.items() if found]
+        works += [pool.submit(how, crate, found) for crate, found in by_crate.items() if found]
         for work in concurrent.futures.as_completed(works):
             found = work.result()
             print(*found.lines, f"{found.crate}: {found.seconds:.0f} seconds of the processor", sep="\n", flush=True)
@@ -298,12 +322,15 @@ def gate():
 
 def main(arguments):
     every = sorted(os.listdir(EDITS))
+    mode = arguments[0] if arguments and arguments[0].startswith("--") else ""
+    crates = arguments[1:] if mode else arguments
     if arguments == ["--gate"]:
         passed, tried = gate()
-    elif arguments == ["--look"] or arguments == ["--all"] or arguments and not {*arguments} - {*every}:
-        edits, lost = read_edits(every if arguments[0].startswith("--") else arguments)
+    elif {*crates} <= {*every} and (mode in ("--look", "--compile", "--all") or crates and not mode):
+        edits, lost = read_edits(crates or every)
         print(*[f"tests/refused/{it}.edit: one of its old texts is not in its file just once" for it in lost], sep="\n", end="\n" * bool(lost))
-        passed, tried = (len(edits), len(edits)) if arguments == ["--look"] else try_all(edits)
+        how = compile_crate if mode == "--compile" else try_crate
+        passed, tried = (len(edits), len(edits)) if mode == "--look" else try_all(edits, how=how)
         tried += len(lost)
     else:
         print(__doc__, f"Crates: {' '.join(every)}", sep="\n\n", file=sys.stderr)
