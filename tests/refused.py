@@ -26,6 +26,8 @@ EDITS = f"{TOP}/tests/refused"
 # What the edits of one crate in rotation may take, in seconds of the processor. It is checked between groups of this number of edits.
 ROTATION = 600
 AT_ONCE = 12
+# And the number of those that are compiled at once.
+COMPILED_AT_ONCE = 60
 REFUSED = "refused"
 FUNCTION = re.compile(r"( *)(?:pub(?:\([a-z]+\))? )?(?:const )?(?:unsafe )?(?:extern \"C\" )?fn (\w+)")
 IMPL = re.compile(r"( *)(?:unsafe )?impl\b(.*)")
@@ -133,11 +135,11 @@ def read_edits(crates):
     return [it for it in found.values() if it], [name for name, it in found.items() if not it]
 
 
-def batches(edits):
-    """The edits in groups of at most AT_ONCE, none of which changes a function twice. One in no function is tried alone."""
+def batches(edits, most=AT_ONCE):
+    """The edits in groups of at most this number, none of which changes a function twice. One in no function is tried alone."""
     groups = []
     for edit in edits:
-        group = next((it for it in groups if fits(edit, it)), None)
+        group = next((it for it in groups if len(it) < most and fits(edit, it)), None)
         if group is None:
             groups.append([edit])
         else:
@@ -147,7 +149,7 @@ def batches(edits):
 
 def fits(edit, group):
     whole = [it for it in [edit, *group] if not it.functions]
-    return len(group) < AT_ONCE and not whole and not {*edit.spans} & {span for it in group for span in it.spans}
+    return not whole and not {*edit.spans} & {span for it in group for span in it.spans}
 
 
 def write_change(room, file, old, new, line):
@@ -276,7 +278,7 @@ def compile_crate(crate, edits):
     if prover.lacking:
         return Tried(crate, [f"{crate}: {prover.lacking[0]} was not built here: run rt ci"], 0, len(edits))
     with tempfile.TemporaryDirectory(prefix="rt-edit-") as kept:
-        bad = [it for group in batches(edits) for it in prover.unread(group, kept)]
+        bad = [it for group in batches(edits, COMPILED_AT_ONCE) for it in prover.unread(group, kept)]
     found.lines = [f"{it}: NOT COMPILED" for it in bad]
     found.refused, found.seconds = len(edits) - len(bad), prover.spent
     return found
