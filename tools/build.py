@@ -3,10 +3,9 @@
 
 The prover is called by itself, since `rt` works on one crate at a time if two have a crate below them in common. It writes
 a library, into crates/NAME/out/built, and the program of crates that are proved alone. Each crate is proved once those below it
-are. Of those that can begin, the one with the longest chain of crates above it begins first. A crate gets
-further jobs while processors are idle, up to four. With more than four processors it gets up to three, and a crate on the longest
-chain of all always has two.
-JOBS=N uses N processors. A crate that is not proved ends the build with its log. The program is for processors of this one's
+are. Of those that can begin, the one with the longest chain of crates above it begins first. A crate gets further jobs while
+processors are idle, up to four. With more than four processors it gets up to three, and a crate on the longest chain of all always
+has two. JOBS=N uses N processors. A crate that is not proved ends the build with its log. The program is for processors of this one's
 level; LEVEL=v2 and LEVEL=v3 ask for x86-64-v2 and x86-64-v3. `tools/build.py --plan N` prints what the weights below give for N
 processors."""
 import os
@@ -23,13 +22,13 @@ PROGRAM = "ilpstream"
 # The processor's seconds that each crate takes from nothing, four at a time, by the table in docs/GATE.md; those that are not here take OTHER.
 # The gate compiles the program twice, so here it has half of what is in that table.
 WEIGHTS = {
-    "st_hop_books": 752, "st_sender": 607, "ilpstream_words": 571, "ilpstream_net": 520, "ilpstream_ends": 485, "st_hub": 448,
-    "st_world": 429, "st_end": 343, "ilpstream_settings": 341, "ilpstream_log": 333, "st_receiver": 318, "st_hop": 291,
-    "st_world_parts": 288, "ilpstream_connector": 269, "ilpstream_frames": 262, "ilpstream_local": 257, "ilpstream_serving": 249,
-    "ilpstream_transfer": 240, "st_http": 234, "st_aes": 233, "st_hop_desk": 231, "ilpstream_main": 222, "ilpstream": 217, "ilpstream_ledger": 185,
-    "st_unacked": 171, "st_ilp": 153, "st_queues": 146, "st_frames": 146, "st_reassembly": 125, "st_oer": 103, "st_file": 91,
-    "st_lanes": 74, "st_keys": 69, "st_devices": 68, "st_links": 53, "ilpstream_explain": 39, "ilpstream_output": 33,
-    "st_streams": 29,
+    "st_hop_books": 780, "ilpstream_words": 583, "ilpstream_ends": 566, "st_sender": 565, "ilpstream_net": 552, "st_hub": 521,
+    "st_world": 505, "ilpstream_connector": 381, "st_end": 368, "st_world_parts": 361, "ilpstream_settings": 347,
+    "st_receiver": 294, "ilpstream_log": 278, "ilpstream_serving": 274, "ilpstream_frames": 251, "st_hop": 247, "st_aes": 245,
+    "ilpstream_local": 236, "ilpstream": 231, "st_http": 225, "st_hop_desk": 224, "ilpstream_ledger": 223, "ilpstream_main": 217,
+    "ilpstream_transfer": 196, "st_unacked": 181, "st_ilp": 157, "st_frames": 157, "st_queues": 150, "st_reassembly": 130,
+    "st_oer": 107, "st_lanes": 82, "st_file": 80, "st_devices": 77, "st_keys": 55, "st_links": 46, "ilpstream_explain": 41,
+    "st_streams": 34, "ilpstream_output": 30,
 }
 OTHER = 100
 # Memory in bytes: what a check takes at most, and what each further job of it takes.
