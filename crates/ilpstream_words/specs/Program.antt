@@ -1,12 +1,12 @@
 -- The program and its commands, as clap reads words for them.
-use Rattle.std.specs.Prelude.{◌≡◌, ℕ, Bool, ◌^◌, ◌-◌, true, false, [], ◌∷◌, ◌++◌, codes, Some}
-use Rattle.clap.specs.Words.{App, Rule, Shape, Text, shape_of, with_subcommand}
+use Rattle.std.specs.Prelude.{◌≡◌, ℕ, ◌^◌, ◌-◌, true, false, [], ◌∷◌, ◌++◌, codes, IfOk, Some}
+use Rattle.clap.specs.Words.{App, Rule, Shape, Text, app_of, shape_of, with_subcommand}
 use Rattle.clap.specs.Simple.{new_rule, new_shape}
 use Rattle.clap.specs.declared.builder.action.ArgAction.TheVariants.{Set, SetTrue}
-use Rattle.clap.specs.declared.builder.command.Command.{Command}
 use Rattle.clap.specs.declared.builder.command.Command.TheViews.{out-Command}
 use Rattle.clap.specs.declared.builder.value_parser.ValueParser.TheVariants.{Unsigned}
 use Rattle.ilpstream_settings.specs.Settings.{most_money, most_workers}
+use Rattle.ilpstream_words.specs.declared.draft.Draft.{Draft}
 
 -- `--name` with one value
 abbrev pub option_rule : Text → Rule
@@ -29,13 +29,17 @@ number_rule name least most = record (option_rule name) { parser = Some (Unsigne
 abbrev pub with_rule : Shape → Rule → Shape
 with_rule s r = record s { rules = s.rules ++ r ∷ [] }
 
--- an option of the command is one of its subcommands too
-abbrev pub has_globals : Command → Bool
-has_globals c = (out-Command c).has_globals
+-- a command has this shape, and no option of its is one of its subcommands too, if no allocation was refused
+abbrev pub HasShape : Shape → Draft → Type 0
+HasShape s d = IfOk d.command (λ c. (shape_of c ≡ s) × ((out-Command c).has_globals ≡ false))
 
--- a command has this shape, and no option of its is one of its subcommands too
-abbrev pub HasShape : Shape → Command → Type 0
-HasShape s c = (shape_of c ≡ s) × (has_globals c ≡ false)
+-- a program with these commands, if no allocation was refused
+abbrev pub IsApp : App → Draft → Type 0
+IsApp a d = IfOk d.command (λ c. app_of c ≡ a)
+
+-- a command of any shape becomes one of the shape that is made of it
+abbrev pub Adds : (Shape → Shape) → Draft → Draft → Type 0
+Adds change before after = (s : Shape) → HasShape s before → HasShape (change s) after
 
 abbrev pub required_rule : Text → Rule
 required_rule name = with_required (option_rule name)

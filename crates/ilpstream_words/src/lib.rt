@@ -6,6 +6,7 @@
 //! definitions of what they mean.
 #![tactic(auto)]
 
+mod draft;
 mod error;
 mod laws;
 mod options;

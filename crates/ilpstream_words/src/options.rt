@@ -1,12 +1,13 @@
 //! The kinds of options that the commands have.
 
-ghost use Rattle.std.specs.Prelude.{◌≡◌, ◌≤◌, ◌<◌, ◌^◌, ℕ, List, [], ◌∷◌, false, length, IfOk};
-ghost use Rattle.clap.specs.Words.{app_of, rule_of, shape_of, with_subcommand};
+ghost use Rattle.std.specs.Prelude.{◌≡◌, ◌<◌, ◌^◌, false, length};
+ghost use Rattle.clap.specs.Words.{Rule, rule_of};
 ghost use Rattle.ilpstream_words.specs.Program as spec;
-ghost use Rattle.ilpstream_words.specs.Program.{HasShape, flag_rule, has_globals, last_rule, number_place_rule, number_rule, option_rule, place_rule, required_rule, with_rule};
+ghost use Rattle.ilpstream_words.specs.Program.{Adds, flag_rule, last_rule, number_place_rule, number_rule, option_rule, place_rule, required_rule, with_rule};
 
-use clap::{Arg, ArgAction, Command, value_parser};
-use std::alloc::{AllocError, Global};
+use crate::draft::Draft;
+use clap::{Arg, ArgAction, value_parser};
+use std::alloc::Global;
 
 /// An option `--NAME` with one value, which help shows as `value`.
 pub(crate) fn option<'a>(alloc: Global, name: &'a str, value: &'a str, help: &'a str) -> Arg<'a>
@@ -119,62 +120,36 @@ pub(crate) fn flag<'a>(alloc: Global, name: &'a str, help: &'a str) -> Arg<'a>
         .action(ArgAction::SetTrue)
 }
 
-/// The command with one further option.
-pub(crate) fn with<'a>(command: Command<'a>, option: Arg<'a>) -> Result<Command<'a>, AllocError>
-    requires { option.global ≡ false }
-    ensures { IfOk result (λ c. (shape_of c ≡ with_rule (shape_of command.entry) (rule_of option.entry)) × (has_globals c ≡ has_globals command.entry)) }
-{
-    command.arg(option)
-}
-
 /// The command with one further option `--NAME`, which is mandatory.
 pub(crate) fn with_required<'a>(
     alloc: Global,
-    command: Command<'a>,
+    command: Draft<'a>,
     name: &'a str,
     value: &'a str,
     help: &'a str,
-) -> Result<Command<'a>, AllocError>
-    requires { has_globals command ≡ false }
-    ensures { IfOk result (HasShape (with_rule (shape_of command.entry) (required_rule name.now))) }
+) -> Draft<'a>
+    ensures { Adds (λ s. with_rule s (required_rule name.now)) command.entry result }
 {
-    with(command, required(option(alloc, name, value, help)))
+    command.with(required(option(alloc, name, value, help)))
 }
 
 /// The command with one further option `--NAME`, which may be left out.
 pub(crate) fn with_optional<'a>(
     alloc: Global,
-    command: Command<'a>,
+    command: Draft<'a>,
     name: &'a str,
     value: &'a str,
     help: &'a str,
-) -> Result<Command<'a>, AllocError>
-    requires { has_globals command ≡ false }
-    ensures { IfOk result (HasShape (with_rule (shape_of command.entry) (option_rule name.now))) }
+) -> Draft<'a>
+    ensures { Adds (λ s. with_rule s (option_rule name.now)) command.entry result }
 {
-    with(command, option(alloc, name, value, help))
+    command.with(option(alloc, name, value, help))
 }
 
 /// The command with one further option, which has this default value.
-pub(crate) fn with_default<'a>(
-    command: Command<'a>,
-    option: Arg<'a>,
-    default: &'a str,
-) -> Result<Command<'a>, AllocError>
+pub(crate) fn with_default<'a>(command: Draft<'a>, option: Arg<'a>, default: &'a str) -> Draft<'a>
     requires own { option.global ≡ false }
-    requires alone { has_globals command ≡ false }
-    ensures { IfOk result (HasShape (with_rule (shape_of command.entry) (spec.with_default default.now (rule_of option.entry)))) }
+    ensures { (r : Rule) → rule_of option.entry ≡ r → Adds (λ s. with_rule s (spec.with_default default.now r)) command.entry result }
 {
-    with(command, or(option, default))
-}
-
-/// The program with one further command.
-pub(crate) fn with_command<'a>(
-    program: Command<'a>,
-    command: Command<'a>,
-) -> Result<Command<'a>, AllocError>
-    requires { has_globals command ≡ false }
-    ensures { IfOk result (λ c. app_of c ≡ with_subcommand (app_of program.entry) (shape_of command.entry)) }
-{
-    program.subcommand(command)
+    command.with(or(option, default))
 }

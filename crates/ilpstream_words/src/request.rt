@@ -183,7 +183,7 @@ pub(crate) fn parse<'a, S: AsStr>(alloc: Global, words: &'a [S]) -> Result<ArgMa
     ensures kinds { FailsBy (fault_of grammar.program (map S.text words.now)) result }
     ensures command { IfOk result (λ m. subcommand_rows_of m ≡ command_of (map S.text words.now)) }
 {
-    program(alloc)?.try_get_matches_from(words)
+    program(alloc).finish()?.try_get_matches_from(words)
 }
 
 /// What clap makes of the arguments, if exactly one of each pair of options is given.
