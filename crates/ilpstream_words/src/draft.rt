@@ -15,7 +15,7 @@ pub(crate) struct Draft<'a> {
 }
 
 impl<'a> Draft<'a> {
-    /// Goes on with a command of clap's.
+    /// A draft that begins with a command of clap's.
     pub(crate) fn of(command: Command<'a>) -> Draft<'a>
         ensures { IfOk result.command (λ c. c ≡ command.entry) }
     {
