@@ -56,7 +56,7 @@ def options():
         after = re.search(rf'^pub const AFTER_{name.upper()}_HELP: &str =\s*"((?:[^"\\]|\\.)*)";', read(TEXTS), re.M)
         return {it for line in re.findall(r"^  [a-z].*$", after.group(1), re.M) for it in re.findall(r"--([a-z][\w-]*)", line)}
 
-    names = re.findall(r"\bwith_command\(program, (\w+)\(alloc\)", read(PROGRAM))
+    names = re.findall(r"\.with_command\((\w+)\(alloc\)", read(PROGRAM))
     return {name: of(name) | words(name) for name in names}
 
 
