@@ -1,6 +1,6 @@
 //! A command that is being put together.
 
-ghost use Rattle.std.specs.Prelude.{◌≡◌, false, IfOk};
+ghost use Rattle.std.specs.Prelude.{◌≡◌, false, IfOk, IsOk};
 ghost use Rattle.clap.specs.Words.{App, Rule, Shape, rule_of, with_subcommand};
 ghost use Rattle.ilpstream_words.specs.Program.{Adds, HasShape, IsApp, with_rule};
 
@@ -17,7 +17,8 @@ pub(crate) struct Draft<'a> {
 impl<'a> Draft<'a> {
     /// A draft that begins with a command of clap's.
     pub(crate) fn of(command: Command<'a>) -> Draft<'a>
-        ensures { IfOk result.command (λ c. c ≡ command.entry) }
+        ensures made { IsOk result.command }
+        ensures same { IfOk result.command (λ c. c ≡ command.entry) }
     {
         Draft {
             command: Ok(command),
@@ -26,7 +27,8 @@ impl<'a> Draft<'a> {
 
     /// The command with this text as its usage.
     pub(crate) fn with_usage(self, usage: &'a str) -> Draft<'a>
-        ensures { Adds (λ s. s) self.entry result }
+        ensures made { IsOk self.entry.command → IsOk result.command }
+        ensures shape { Adds (λ s. s) self.entry result }
     {
         match self.command {
             Ok(command) => Draft {

@@ -1,5 +1,6 @@
 //! The commands and their options.
 
+ghost use Rattle.std.specs.Prelude.{IsOk};
 ghost use Rattle.clap.specs.Words.{App};
 ghost use Rattle.clap.specs.Simple.{new_shape};
 ghost use Rattle.ilpstream_words.specs.Program as spec;
@@ -30,13 +31,15 @@ const VERSION: &str = "0.1.0";
 
 /// A command with no option yet.
 fn named<'a>(alloc: Global, name: &'a str, about: &'a str, after: &'a str) -> Draft<'a>
-    ensures { HasShape (new_shape name.now) result }
+    ensures made { IsOk result.command }
+    ensures shape { HasShape (new_shape name.now) result }
 {
     Draft::of(Command::new(alloc, name).about(about).after_help(after))
 }
 
 fn frames<'a>(alloc: Global) -> Draft<'a>
-    ensures { HasShape spec.frames result }
+    ensures made { IsOk result.command }
+    ensures shape { HasShape spec.frames result }
 {
     named(
         alloc,
@@ -340,7 +343,8 @@ fn with_transfers<'a>(alloc: Global, program: Draft<'a>) -> Draft<'a>
 
 /// The program without its commands.
 fn alone<'a>(alloc: Global) -> Draft<'a>
-    ensures { IsApp spec.alone result }
+    ensures made { IsOk result.command }
+    ensures app { IsApp spec.alone result }
 {
     Draft::of(
         Command::new(alloc, "ilpstream")
