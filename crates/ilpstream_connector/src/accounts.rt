@@ -7,7 +7,7 @@ use st_hop::HopState;
 use std::alloc::{AllocError, Global};
 
 /// What is owed between a hop and one of its accounts, and what is reserved against that account, in units.
-#[derive(Clone, Copy, Debug)]
+#[derive(Clone, Copy)]
 pub struct AccountTotals {
     /// What the account owes the hop, in units.
     pub claims: u64,

@@ -14,7 +14,7 @@ use std::sync::{Mutex, Wait};
 pub const MOST_CODES: u64 = 32;
 
 /// What an exchange with a neighbour brought for a Prepare.
-#[derive(Clone, Copy, Debug, PartialEq, Eq)]
+#[derive(Clone, Copy)]
 pub(crate) enum Came {
     /// There was no exchange.
     NotSent,
@@ -25,7 +25,7 @@ pub(crate) enum Came {
 }
 
 /// How a Prepare ended that was answered. A Reject has its code.
-#[derive(Clone, Copy, Debug, PartialEq, Eq)]
+#[derive(Clone, Copy)]
 pub(crate) enum Fate {
     /// It was fulfilled.
     Fulfilled,
@@ -38,7 +38,7 @@ pub(crate) enum Fate {
 }
 
 /// How a code was counted.
-#[derive(Clone, Copy, Debug, PartialEq, Eq)]
+#[derive(Clone, Copy)]
 enum Entry {
     /// It had an entry of its own, or there was no code.
     Known,
@@ -49,7 +49,7 @@ enum Entry {
 }
 
 /// How many Prepares of an account were answered, by how they ended. Each count stops at `u64::MAX`.
-#[derive(Clone, Copy, Debug, PartialEq, Eq)]
+#[derive(Clone, Copy)]
 pub struct AccountCounts {
     /// Those that were fulfilled.
     pub fulfilled: u64,
@@ -67,7 +67,7 @@ pub struct AccountCounts {
 }
 
 /// How many Prepares of an account were answered with a Reject of one code.
-#[derive(Clone, Copy, Debug, PartialEq, Eq)]
+#[derive(Clone, Copy)]
 pub struct CodeCount {
     /// The account's place.
     pub account: usize,
@@ -134,7 +134,7 @@ fn rank(account: usize, code: [u8; 3]) -> u128
 }
 
 /// The place at which a code is in codes that are in order, or would be.
-#[derive(Clone, Copy, Debug, PartialEq, Eq)]
+#[derive(Clone, Copy)]
 enum Found {
     /// It has this entry at this place.
     At(usize, CodeCount),

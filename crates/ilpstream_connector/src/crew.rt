@@ -13,7 +13,7 @@ use std::time::{Clock, Duration, Instant};
 const RETRY_SECONDS: u64 = 1;
 
 /// What the manager of a connector's threads is to do.
-#[derive(Clone, Copy, Debug, PartialEq, Eq)]
+#[derive(Clone, Copy)]
 pub(crate) enum Wanted {
     /// One more thread is to be made, for which a request is claimed.
     Thread,
@@ -36,7 +36,7 @@ pub(crate) struct Crew {
 }
 
 /// What the threads of a connector leave.
-#[derive(Clone, Copy, Debug, PartialEq, Eq)]
+#[derive(Clone, Copy)]
 pub(crate) struct CrewEnded {
     /// How many were to accept at any time.
     pub(crate) workers: u8,

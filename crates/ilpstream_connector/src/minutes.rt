@@ -9,7 +9,7 @@ use std::sync::ledger::Ledger;
 use std::sync::{Mutex, Wait};
 
 /// What a connector is asked while it runs.
-#[derive(Clone, Copy, Debug, PartialEq, Eq)]
+#[derive(Clone, Copy)]
 pub enum Order {
     /// Nothing, for now.
     Nothing,
@@ -42,7 +42,7 @@ pub trait Minutes {
 }
 
 /// Reports nothing, and asks for nothing.
-#[derive(Clone, Copy, Debug, PartialEq, Eq)]
+#[derive(Clone, Copy)]
 pub struct NoMinutes;
 
 impl Minutes for NoMinutes {

@@ -21,7 +21,7 @@ pub const MOST_THREADS: usize = MOST_BUSY as usize;
 const SPARE: u64 = 16;
 
 /// Whether a thread may send to a neighbour, so that it accepts nothing until the answer is here.
-#[derive(Clone, Copy, Debug, PartialEq, Eq)]
+#[derive(Clone, Copy)]
 pub(crate) enum Leave {
     /// It may send.
     Send,
@@ -32,7 +32,7 @@ pub(crate) enum Leave {
 }
 
 /// What a thread is to do that met a fault as it accepted.
-#[derive(Clone, Copy, Debug, PartialEq, Eq)]
+#[derive(Clone, Copy)]
 pub(crate) enum Failed {
     /// It is to try again.
     Again,

@@ -22,7 +22,7 @@ pub(crate) const STREAM: StreamId = StreamId::FIRST;
 const PIECE: usize = 65_536;
 
 /// Whether more is to arrive on the stream.
-#[derive(Clone, Copy, Debug, PartialEq, Eq)]
+#[derive(Clone, Copy)]
 pub(crate) enum Delivered {
     More,
     /// All bytes are written, and flushed.

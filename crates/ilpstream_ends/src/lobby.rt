@@ -30,7 +30,7 @@ const PIECE: usize = 16_384;
 const LOOK_MILLIS: u64 = 200;
 
 /// How far a request has been read.
-#[derive(Clone, Copy, Debug, PartialEq, Eq)]
+#[derive(Clone, Copy)]
 enum Step {
     /// It is not whole yet.
     More,

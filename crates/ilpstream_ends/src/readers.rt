@@ -4,7 +4,7 @@ ghost use Rattle.std.specs.Prelude.{◌≡◌, ◌⊎◌, ◌-◌, ◌<◌, fals
 ghost use Rattle.ilpstream_ends.specs.Lobby.{HaveEnded, HaveFailed};
 
 /// Why a thread of a receiver reads no further request.
-#[derive(Clone, Copy, Debug, PartialEq, Eq)]
+#[derive(Clone, Copy)]
 pub(crate) enum Leaves {
     /// The transfer is over.
     Over,
@@ -15,7 +15,7 @@ pub(crate) enum Leaves {
 }
 
 /// The threads of a receiver that read requests.
-#[derive(Clone, Copy, Debug, PartialEq, Eq)]
+#[derive(Clone, Copy)]
 pub(crate) struct Readers {
     /// How many there are.
     at_work: u64,

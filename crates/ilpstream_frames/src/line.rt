@@ -15,7 +15,7 @@ use std::marker::Model;
 const MAX_DIGITS: usize = 2 * MAX_PACKET;
 
 /// What ended a line.
-#[derive(Clone, Copy, Debug, PartialEq, Eq)]
+#[derive(Clone, Copy)]
 pub enum LineEnd {
     /// A newline.
     Newline,
@@ -24,7 +24,7 @@ pub enum LineEnd {
 }
 
 /// What the characters of a line are so far.
-#[derive(Clone, Copy, Debug, PartialEq, Eq)]
+#[derive(Clone, Copy)]
 pub enum Shape {
     /// Hexadecimal digits only.
     Digits,

@@ -12,7 +12,7 @@ use st_hop_books::{Amounts, Books, BooksError, Entry, Kind, Payment};
 use st_links::BalanceSide;
 
 /// What was entered under a reference, now or before.
-#[derive(Clone, Copy, Debug, PartialEq, Eq)]
+#[derive(Clone, Copy)]
 pub struct Once {
     /// What the account owes and is owed then.
     pub amounts: Amounts,

@@ -10,7 +10,7 @@ use std::marker::Model;
 use std::os::unix::fs::MetadataExt;
 
 /// Which file a name leads to, how long it is in bytes, and when it was written.
-#[derive(Clone, Copy, Debug, PartialEq, Eq)]
+#[derive(Clone, Copy)]
 struct Standing {
     device: u64,
     inode: u64,
@@ -40,7 +40,7 @@ impl Standing {
 }
 
 /// The files at the names of books: the file, and its log.
-#[derive(Clone, Copy, Debug, PartialEq, Eq)]
+#[derive(Clone, Copy)]
 pub struct Look {
     file: Standing,
     log: Standing,

@@ -18,7 +18,7 @@ const FRAME: usize = 16_000;
 const ROOM: usize = 262_144;
 
 /// How many Prepares the client sent in a finished run.
-#[derive(Clone, Copy, Debug, PartialEq, Eq)]
+#[derive(Clone, Copy)]
 pub struct LocalSends {
     /// All of them, also those that were lost.
     pub sent: u64,

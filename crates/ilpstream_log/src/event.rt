@@ -172,7 +172,7 @@ pub enum Cause<'a> {
 }
 
 /// Why no connection to a neighbour was made.
-#[derive(Clone, Copy, Debug, PartialEq, Eq)]
+#[derive(Clone, Copy)]
 pub enum Unreached {
     /// There is no address at which the neighbour is reached, or the connection failed in another way.
     Other,
@@ -198,7 +198,7 @@ pub enum Heard<'a> {
 }
 
 /// What became of a connection on which no request was answered.
-#[derive(Clone, Copy, Debug, PartialEq, Eq)]
+#[derive(Clone, Copy)]
 pub enum Lost {
     /// Its request was refused by this status.
     Status(u16),
@@ -207,7 +207,7 @@ pub enum Lost {
 }
 
 /// The totals of an account of a connector.
-#[derive(Clone, Copy, Debug, PartialEq, Eq)]
+#[derive(Clone, Copy)]
 pub struct AccountCounts {
     /// Units that the account owes the connector.
     pub claims: u64,
@@ -226,7 +226,7 @@ pub struct AccountCounts {
 }
 
 /// The kind of an event: what lines are counted by.
-#[derive(Clone, Copy, Debug, PartialEq, Eq)]
+#[derive(Clone, Copy)]
 pub enum Kind {
     /// `start`
     Start,

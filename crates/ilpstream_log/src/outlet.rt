@@ -11,7 +11,7 @@ use std::io::{ErrorKind, Write};
 const CALLS: u32 = 65_536;
 
 /// How a round of writing ended.
-#[derive(Clone, Copy, Debug, PartialEq, Eq)]
+#[derive(Clone, Copy)]
 pub(crate) enum Round {
     /// All lines are written.
     All,
@@ -22,7 +22,7 @@ pub(crate) enum Round {
 }
 
 /// How one call of the writer ended.
-#[derive(Clone, Copy, Debug, PartialEq, Eq)]
+#[derive(Clone, Copy)]
 enum Call {
     More,
     Later,

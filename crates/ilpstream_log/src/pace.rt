@@ -11,7 +11,7 @@ use std::alloc::{AllocError, Global};
 pub const LINES_A_SECOND: u64 = 10;
 
 /// What to do with an event.
-#[derive(Clone, Copy, Debug, PartialEq, Eq)]
+#[derive(Clone, Copy)]
 pub enum Verdict {
     /// Write its line, after one with the number of those left out before, if that number is not 0.
     Write {
@@ -23,7 +23,7 @@ pub enum Verdict {
 }
 
 /// What is counted of one kind from one neighbour.
-#[derive(Clone, Copy, Debug, PartialEq, Eq)]
+#[derive(Clone, Copy)]
 pub(crate) struct Slot {
     /// The second in which the last line was written.
     second: u64,
@@ -34,7 +34,7 @@ pub(crate) struct Slot {
 }
 
 /// Events that were left out, and are reported now.
-#[derive(Clone, Copy, Debug, PartialEq, Eq)]
+#[derive(Clone, Copy)]
 pub struct Left {
     /// Their kind.
     pub kind: Kind,

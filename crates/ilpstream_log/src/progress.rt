@@ -10,7 +10,7 @@ use st_streams::Blocked;
 use std::alloc::{AllocError, Global};
 
 /// Why an exchange brought no Fulfill, without the texts of a peer.
-#[derive(Clone, Copy, Debug, PartialEq, Eq)]
+#[derive(Clone, Copy)]
 pub enum Brief {
     /// The link to the neighbour failed.
     Link {
@@ -32,7 +32,7 @@ pub enum Brief {
 }
 
 /// How far a transfer is.
-#[derive(Clone, Copy, Debug, PartialEq, Eq)]
+#[derive(Clone, Copy)]
 pub struct Progress {
     /// The bytes that were sent or received.
     pub bytes: u64,

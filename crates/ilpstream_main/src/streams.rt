@@ -18,7 +18,7 @@ use std::os::fd::RawFd;
 const FOLDER: &str = "/";
 
 /// Which standard streams are open.
-#[derive(Clone, Copy, Debug, PartialEq, Eq)]
+#[derive(Clone, Copy)]
 pub struct Streams {
     /// Whether standard input is open.
     pub input: bool,

@@ -59,7 +59,7 @@ pub(crate) fn replace<W: Write + Drop, P: Place<W>>(place: &mut P, text: &[u8]) 
 const NAMES: u32 = 100;
 
 /// Why no file was made.
-#[derive(Clone, Copy, Debug, PartialEq, Eq)]
+#[derive(Clone, Copy)]
 pub(crate) enum Unmade {
     /// There is no memory for its name.
     NoMemory,

@@ -22,7 +22,7 @@ const MOST_LINE: usize = 256;
 const MOST_BYTES: u32 = 4_096;
 
 /// What a line asks for.
-#[derive(Clone, Copy, Debug, PartialEq, Eq)]
+#[derive(Clone, Copy)]
 pub enum Asked {
     /// To accept no further connection, to finish what is open, and to end.
     Stop,

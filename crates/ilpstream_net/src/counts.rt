@@ -72,7 +72,7 @@ fn other_text(alloc: Global, number: usize, counts: AccountCounts) -> Result<Str
 }
 
 /// A line of an account.
-#[derive(Clone, Copy, Debug, PartialEq, Eq)]
+#[derive(Clone, Copy)]
 enum Line {
     /// How its Prepares ended.
     Fates,

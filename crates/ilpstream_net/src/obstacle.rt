@@ -11,7 +11,7 @@ use std::io;
 use std::io::ErrorKind;
 
 /// What a command could not do.
-#[derive(Clone, Copy, Debug, PartialEq, Eq)]
+#[derive(Clone, Copy)]
 pub enum Step {
     /// Listen at an address.
     Listen,
@@ -34,7 +34,7 @@ pub enum Step {
 }
 
 /// Why it could not, by the error that the system returned.
-#[derive(Clone, Copy, Debug, PartialEq, Eq)]
+#[derive(Clone, Copy)]
 pub(crate) enum Cause {
     NotFound,
     Denied,
@@ -50,7 +50,7 @@ pub(crate) enum Cause {
 }
 
 /// What prevented a command from beginning its work: a file or an address that an option names.
-#[derive(Clone, Copy, Debug)]
+#[derive(Clone, Copy)]
 pub struct Obstacle<'a> {
     pub(crate) step: Step,
     /// The file or the address.

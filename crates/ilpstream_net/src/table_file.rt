@@ -48,7 +48,7 @@ pub(crate) fn look_at(alloc: Global, own: &str, bytes: &[u8]) -> Result<(), RunE
 }
 
 /// Why a file of a table was not read.
-#[derive(Clone, Copy, Debug, PartialEq, Eq)]
+#[derive(Clone, Copy)]
 pub(crate) enum Unread {
     Refused(Cause),
     NoMemory,

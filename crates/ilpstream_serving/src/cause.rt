@@ -15,7 +15,7 @@ const EMFILE: i32 = 24;
 const ENFILE: i32 = 23;
 
 /// Why no connection to a neighbour was made. If a host has several addresses, it concerns the last that was tried.
-#[derive(Clone, Copy, Debug, PartialEq, Eq)]
+#[derive(Clone, Copy)]
 pub enum Unreached {
     /// The link has no neighbour, or the connection failed in another way, for example because the host has no route.
     Other,
@@ -56,7 +56,7 @@ pub(crate) fn is_out_of_descriptors(error: &io::Error) -> bool
 }
 
 /// Why an exchange over a link by HTTP brought no answer.
-#[derive(Clone, Copy, Debug, PartialEq, Eq)]
+#[derive(Clone, Copy)]
 pub enum LinkCause {
     /// No connection to the neighbour was made.
     Unreached(Unreached),

@@ -16,7 +16,7 @@ use std::time::Duration;
 const MOST_KEPT: i64 = 5_000;
 
 /// What a clock gives for one reading.
-#[derive(Clone, Copy, Debug, PartialEq, Eq)]
+#[derive(Clone, Copy)]
 struct Present {
     moment: Moment,
     /// By how many milliseconds the runtime's clock was set back, if it is followed.
@@ -24,7 +24,7 @@ struct Present {
 }
 
 /// The moment that a clock gave last; at first, the start of 1970.
-#[derive(Clone, Copy, Debug, PartialEq, Eq)]
+#[derive(Clone, Copy)]
 pub struct LastMoment {
     moment: Moment,
 }

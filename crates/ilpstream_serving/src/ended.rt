@@ -4,7 +4,7 @@ use crate::error::TransferError;
 use st_end::Totals;
 
 /// The result of `send_on` or `receive_on`.
-#[derive(Clone, Copy, Debug, PartialEq, Eq)]
+#[derive(Clone, Copy)]
 pub struct Ended {
     /// The number of bytes of the input that were sent, or of the output that were written; or why not all were.
     pub result: Result<u64, TransferError>,

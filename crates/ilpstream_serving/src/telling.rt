@@ -21,7 +21,7 @@ use std::time::Clock;
 pub type Log<'a> = Option<&'a LogFile>;
 
 /// What became of the exchange of a request.
-#[derive(Clone, Copy, Debug, PartialEq, Eq)]
+#[derive(Clone, Copy)]
 pub enum Sent {
     /// There was none.
     No,
@@ -32,7 +32,7 @@ pub enum Sent {
 }
 
 /// Why a packet was refused here.
-#[derive(Clone, Copy, Debug, PartialEq, Eq)]
+#[derive(Clone, Copy)]
 pub struct Refusal {
     /// The code of the Reject.
     code: [u8; 3],

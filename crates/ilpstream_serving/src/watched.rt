@@ -8,7 +8,7 @@ use std::io::{ErrorKind, Read, Write};
 const FRONT: u8 = 9;
 
 /// The status of a response, as far as its bytes were written.
-#[derive(Clone, Copy, Debug, PartialEq, Eq)]
+#[derive(Clone, Copy)]
 struct StatusLine {
     /// How many bytes were read.
     at: u8,

@@ -29,7 +29,7 @@ pub trait Watch {
 }
 
 /// Reports nothing.
-#[derive(Clone, Copy, Debug, PartialEq, Eq)]
+#[derive(Clone, Copy)]
 pub struct NoWatch;
 
 impl Watch for NoWatch {
@@ -68,7 +68,7 @@ impl<V: Watch> Idle<'_, V> {
 }
 
 /// A limit of the peer that a Prepare reports.
-#[derive(Clone, Copy, Debug, PartialEq, Eq)]
+#[derive(Clone, Copy)]
 pub(crate) struct Reached {
     limit: Blocked,
     /// Whether that Prepare is sent.

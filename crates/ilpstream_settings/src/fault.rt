@@ -65,7 +65,7 @@ pub enum LineFault {
 }
 
 /// The first bad line of a table.
-#[derive(Clone, Copy, Debug, PartialEq, Eq)]
+#[derive(Clone, Copy)]
 pub struct TableFault {
     /// The number of the line, from 1.
     pub line: usize,

@@ -14,7 +14,7 @@ use st_http::is_field_text;
 use st_links::BalanceSide;
 
 /// Whether an amount is taken off or added.
-#[derive(Clone, Copy, Debug, PartialEq, Eq)]
+#[derive(Clone, Copy)]
 pub enum Kind {
     /// A payment outside Interledger: it is taken off.
     Settle,
@@ -23,7 +23,7 @@ pub enum Kind {
 }
 
 /// A payment outside Interledger between the connector and a neighbour, or an adjustment.
-#[derive(Clone, Copy, Debug)]
+#[derive(Clone, Copy)]
 pub struct Payment<'a> {
     /// The name of the neighbour's account: 1 to 255 visible characters.
     pub name: &'a str,
@@ -38,7 +38,7 @@ pub struct Payment<'a> {
 }
 
 /// The settings of `ledger`.
-#[derive(Clone, Copy, Debug)]
+#[derive(Clone, Copy)]
 pub struct LedgerSettings<'a> {
     /// The name of the file that the books are kept in.
     pub file: &'a str,

@@ -18,7 +18,7 @@ use st_oer::Rate;
 use std::alloc::{AllocError, Allocator};
 
 /// An account of a connector's table.
-#[derive(Clone, Copy, Debug)]
+#[derive(Clone, Copy)]
 pub struct AccountLine<'a> {
     /// The account's name, if its line gives one: 1 to 255 visible characters.
     pub name: Option<&'a str>,

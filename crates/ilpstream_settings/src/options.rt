@@ -1,7 +1,7 @@
 //! The texts of options, as the command line gives them.
 
 /// The texts of the options of `local`.
-#[derive(Clone, Copy, Debug)]
+#[derive(Clone, Copy)]
 pub struct LocalOptions<'a> {
     /// The text of `--hops`.
     pub hops: &'a str,
@@ -14,7 +14,7 @@ pub struct LocalOptions<'a> {
 }
 
 /// The texts of the options of `send`.
-#[derive(Clone, Copy, Debug)]
+#[derive(Clone, Copy)]
 pub struct SendOptions<'a> {
     /// The text of `--to`.
     pub to: &'a str,
@@ -47,7 +47,7 @@ pub struct SendOptions<'a> {
 }
 
 /// The texts of the options of `receive`.
-#[derive(Clone, Copy, Debug)]
+#[derive(Clone, Copy)]
 pub struct ReceiveOptions<'a> {
     /// The text of `--listen`.
     pub listen: &'a str,
@@ -80,7 +80,7 @@ pub struct ReceiveOptions<'a> {
 }
 
 /// The texts of the options of `connector`.
-#[derive(Clone, Copy, Debug)]
+#[derive(Clone, Copy)]
 pub struct ConnectorOptions<'a> {
     /// The text of `--listen`.
     pub listen: &'a str,
@@ -107,7 +107,7 @@ pub struct ConnectorOptions<'a> {
 }
 
 /// The texts of the arguments of `ledger`.
-#[derive(Clone, Copy, Debug)]
+#[derive(Clone, Copy)]
 pub struct LedgerOptions<'w, 'a> {
     /// The text of FILE.
     pub file: &'a str,

@@ -33,7 +33,7 @@ pub const LEAST_SEND_PATIENCE: u32 = 10;
 pub const MAX_REQUESTS: u64 = (1 << 31) - 1;
 
 /// The settings of `local`.
-#[derive(Clone, Copy, Debug)]
+#[derive(Clone, Copy)]
 pub struct LocalSettings {
     /// The number of connectors between the two ends: 0 to 8, by default 1.
     pub hops: u8,
@@ -44,7 +44,7 @@ pub struct LocalSettings {
 }
 
 /// What `local` is asked for: its settings, and the file of its totals.
-#[derive(Clone, Copy, Debug)]
+#[derive(Clone, Copy)]
 pub struct LocalRequest<'a> {
     /// The settings of the run.
     pub settings: LocalSettings,
@@ -53,7 +53,7 @@ pub struct LocalRequest<'a> {
 }
 
 /// The settings of `send`.
-#[derive(Clone, Copy, Debug)]
+#[derive(Clone, Copy)]
 pub struct SendSettings<'a> {
     /// The neighbour that requests are sent to, written HOST:PORT.
     pub to: &'a str,
@@ -83,7 +83,7 @@ pub struct SendSettings<'a> {
 }
 
 /// The settings of `receive`.
-#[derive(Clone, Copy, Debug)]
+#[derive(Clone, Copy)]
 pub struct ReceiveSettings<'a> {
     /// The address at which requests are accepted, written HOST:PORT.
     pub listen: &'a str,
@@ -112,7 +112,7 @@ pub struct ReceiveSettings<'a> {
 }
 
 /// The settings of `connector`.
-#[derive(Clone, Copy, Debug)]
+#[derive(Clone, Copy)]
 pub struct ConnectorSettings<'a> {
     /// The address at which requests are accepted, written HOST:PORT.
     pub listen: &'a str,

@@ -10,7 +10,7 @@ use crate::text::read_secret;
 use st_http::is_field_text;
 
 /// The source of a bearer token.
-#[derive(Clone, Copy, Debug)]
+#[derive(Clone, Copy)]
 pub enum Token<'a> {
     /// It is this text: 1 to 255 visible characters.
     Given(&'a str),
@@ -19,7 +19,7 @@ pub enum Token<'a> {
 }
 
 /// The source of the shared secret of a connection.
-#[derive(Clone, Copy, Debug)]
+#[derive(Clone, Copy)]
 pub enum Secret<'a> {
     /// It is these 32 bytes.
     Given([u8; 32]),

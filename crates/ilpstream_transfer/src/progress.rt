@@ -31,7 +31,7 @@ const MARK_MILLIS: u64 = 5_000;
 const CLEARED: [u8; 4] = *b"\r\x1b[K";
 
 /// Which end of a connection a command runs.
-#[derive(Clone, Copy, Debug, PartialEq, Eq)]
+#[derive(Clone, Copy)]
 pub(crate) enum Side {
     /// It sends an input of this length, if that is known.
     Sends(Option<u64>),
@@ -40,7 +40,7 @@ pub(crate) enum Side {
 }
 
 /// How many bytes a transfer had `millis` milliseconds after its start.
-#[derive(Clone, Copy, Debug, PartialEq, Eq)]
+#[derive(Clone, Copy)]
 pub(crate) struct Mark {
     bytes: u64,
     millis: u64,
@@ -53,7 +53,7 @@ const START: Mark = Mark {
 };
 
 /// The last two marks of a transfer.
-#[derive(Clone, Copy, Debug, PartialEq, Eq)]
+#[derive(Clone, Copy)]
 pub(crate) struct Span {
     /// The mark at which the last seconds begin.
     from: Mark,

@@ -3,7 +3,7 @@
 use clap::Error;
 
 /// Why the arguments ask for no command.
-#[derive(Debug, Drop)]
+#[derive(Drop)]
 pub enum WordsError {
     /// clap refuses the arguments, or they ask for help or the version. The error has the text to print. Memory that
     /// was refused is one of its kinds.

@@ -23,7 +23,7 @@ use std::alloc::Global;
 use std::convert::AsStr;
 
 /// The command that a run is asked to do, with its settings.
-#[derive(Clone, Copy, Debug)]
+#[derive(Clone, Copy)]
 pub enum Request<'a> {
     /// `frames`, or no command.
     Frames,

@@ -35,58 +35,156 @@ const STREAM_MAX_DATA: u8 = 0x15;
 
 const STREAM_DATA_BLOCKED: u8 = 0x16;
 
+/// The contents of ConnectionClose. Bytes left are ignored.
+#[tactic(auto, unfolding(crate::specs::Contents::contents_at, crate::specs::Table::row_of))]
+fn connection_close(contents: &[u8]) -> Result<Option<Frame<'_>>, Malformed>
+    ensures { Gives (option_map seen) (refusing tt result) (contents_at 1 contents.now) }
+{
+    let mut cut = Cut::new(contents);
+    Ok(Some(Frame::ConnectionClose {
+        code: cut.get_u8()?,
+        message: read_text(&mut cut)?,
+    }))
+}
+
+/// The contents of ConnectionNewAddress. Bytes left are ignored.
+#[tactic(auto, unfolding(crate::specs::Contents::contents_at, crate::specs::Table::row_of))]
+fn connection_new_address(contents: &[u8]) -> Result<Option<Frame<'_>>, Malformed>
+    ensures { Gives (option_map seen) (refusing tt result) (contents_at 2 contents.now) }
+{
+    let mut cut = Cut::new(contents);
+    Ok(Some(Frame::ConnectionNewAddress {
+        address: read_address(&mut cut)?,
+    }))
+}
+
+/// The contents of ConnectionMaxData. Bytes left are ignored.
+#[tactic(auto, unfolding(crate::specs::Contents::contents_at, crate::specs::Table::row_of))]
+fn connection_max_data(contents: &[u8]) -> Result<Option<Frame<'_>>, Malformed>
+    ensures { Gives (option_map seen) (refusing tt result) (contents_at 3 contents.now) }
+{
+    let mut cut = Cut::new(contents);
+    Ok(Some(Frame::ConnectionMaxData {
+        max_offset: cut.limit()?,
+    }))
+}
+
+/// The contents of ConnectionDataBlocked. Bytes left are ignored.
+#[tactic(auto, unfolding(crate::specs::Contents::contents_at, crate::specs::Table::row_of))]
+fn connection_data_blocked(contents: &[u8]) -> Result<Option<Frame<'_>>, Malformed>
+    ensures { Gives (option_map seen) (refusing tt result) (contents_at 4 contents.now) }
+{
+    let mut cut = Cut::new(contents);
+    Ok(Some(Frame::ConnectionDataBlocked {
+        max_offset: cut.limit()?,
+    }))
+}
+
+/// The contents of StreamClose. Bytes left are ignored.
+#[tactic(auto, unfolding(crate::specs::Contents::contents_at, crate::specs::Table::row_of))]
+fn stream_close(contents: &[u8]) -> Result<Option<Frame<'_>>, Malformed>
+    ensures { Gives (option_map seen) (refusing tt result) (contents_at 16 contents.now) }
+{
+    let mut cut = Cut::new(contents);
+    Ok(Some(Frame::StreamClose {
+        stream: cut.var_uint()?,
+        code: cut.get_u8()?,
+        message: read_text(&mut cut)?,
+    }))
+}
+
+/// The contents of StreamMoney. Bytes left are ignored.
+#[tactic(auto, unfolding(crate::specs::Contents::contents_at, crate::specs::Table::row_of))]
+fn stream_money(contents: &[u8]) -> Result<Option<Frame<'_>>, Malformed>
+    ensures { Gives (option_map seen) (refusing tt result) (contents_at 17 contents.now) }
+{
+    let mut cut = Cut::new(contents);
+    Ok(Some(Frame::StreamMoney {
+        stream: cut.var_uint()?,
+        shares: cut.var_uint()?,
+    }))
+}
+
+/// The contents of StreamMaxMoney. Bytes left are ignored.
+#[tactic(auto, unfolding(crate::specs::Contents::contents_at, crate::specs::Table::row_of))]
+fn stream_max_money(contents: &[u8]) -> Result<Option<Frame<'_>>, Malformed>
+    ensures { Gives (option_map seen) (refusing tt result) (contents_at 18 contents.now) }
+{
+    let mut cut = Cut::new(contents);
+    Ok(Some(Frame::StreamMaxMoney {
+        stream: cut.var_uint()?,
+        receive_max: cut.limit()?,
+        total_received: cut.limit()?,
+    }))
+}
+
+/// The contents of StreamMoneyBlocked. Bytes left are ignored.
+#[tactic(auto, unfolding(crate::specs::Contents::contents_at, crate::specs::Table::row_of))]
+fn stream_money_blocked(contents: &[u8]) -> Result<Option<Frame<'_>>, Malformed>
+    ensures { Gives (option_map seen) (refusing tt result) (contents_at 19 contents.now) }
+{
+    let mut cut = Cut::new(contents);
+    Ok(Some(Frame::StreamMoneyBlocked {
+        stream: cut.var_uint()?,
+        send_max: cut.limit()?,
+        total_sent: cut.limit()?,
+    }))
+}
+
+/// The contents of StreamData. Bytes left are ignored.
+#[tactic(auto, unfolding(crate::specs::Contents::contents_at, crate::specs::Table::row_of))]
+fn stream_data(contents: &[u8]) -> Result<Option<Frame<'_>>, Malformed>
+    ensures { Gives (option_map seen) (refusing tt result) (contents_at 20 contents.now) }
+{
+    let mut cut = Cut::new(contents);
+    Ok(Some(Frame::StreamData {
+        stream: cut.var_uint()?,
+        offset: cut.var_uint()?,
+        bytes: cut.octets()?,
+    }))
+}
+
+/// The contents of StreamMaxData. Bytes left are ignored.
+#[tactic(auto, unfolding(crate::specs::Contents::contents_at, crate::specs::Table::row_of))]
+fn stream_max_data(contents: &[u8]) -> Result<Option<Frame<'_>>, Malformed>
+    ensures { Gives (option_map seen) (refusing tt result) (contents_at 21 contents.now) }
+{
+    let mut cut = Cut::new(contents);
+    Ok(Some(Frame::StreamMaxData {
+        stream: cut.var_uint()?,
+        max_offset: cut.limit()?,
+    }))
+}
+
+/// The contents of StreamDataBlocked. Bytes left are ignored.
+#[tactic(auto, unfolding(crate::specs::Contents::contents_at, crate::specs::Table::row_of))]
+fn stream_data_blocked(contents: &[u8]) -> Result<Option<Frame<'_>>, Malformed>
+    ensures { Gives (option_map seen) (refusing tt result) (contents_at 22 contents.now) }
+{
+    let mut cut = Cut::new(contents);
+    Ok(Some(Frame::StreamDataBlocked {
+        stream: cut.var_uint()?,
+        max_offset: cut.limit()?,
+    }))
+}
+
 /// The frame of this type whose contents these are, or None for a type that is not known. Bytes left are ignored.
 #[tactic(auto, unfolding(crate::specs::Contents::contents_at, crate::specs::Table::row_of))]
 pub(crate) fn known_frame(kind: u8, contents: &[u8]) -> Result<Option<Frame<'_>>, Malformed>
     ensures { Gives (option_map seen) (refusing tt result) (contents_at kind contents.now) }
 {
-    let mut cut = Cut::new(contents);
     match kind {
-        CONNECTION_CLOSE => Ok(Some(Frame::ConnectionClose {
-            code: cut.get_u8()?,
-            message: read_text(&mut cut)?,
-        })),
-        CONNECTION_NEW_ADDRESS => Ok(Some(Frame::ConnectionNewAddress {
-            address: read_address(&mut cut)?,
-        })),
-        CONNECTION_MAX_DATA => Ok(Some(Frame::ConnectionMaxData {
-            max_offset: cut.limit()?,
-        })),
-        CONNECTION_DATA_BLOCKED => Ok(Some(Frame::ConnectionDataBlocked {
-            max_offset: cut.limit()?,
-        })),
-        STREAM_CLOSE => Ok(Some(Frame::StreamClose {
-            stream: cut.var_uint()?,
-            code: cut.get_u8()?,
-            message: read_text(&mut cut)?,
-        })),
-        STREAM_MONEY => Ok(Some(Frame::StreamMoney {
-            stream: cut.var_uint()?,
-            shares: cut.var_uint()?,
-        })),
-        STREAM_MAX_MONEY => Ok(Some(Frame::StreamMaxMoney {
-            stream: cut.var_uint()?,
-            receive_max: cut.limit()?,
-            total_received: cut.limit()?,
-        })),
-        STREAM_MONEY_BLOCKED => Ok(Some(Frame::StreamMoneyBlocked {
-            stream: cut.var_uint()?,
-            send_max: cut.limit()?,
-            total_sent: cut.limit()?,
-        })),
-        STREAM_DATA => Ok(Some(Frame::StreamData {
-            stream: cut.var_uint()?,
-            offset: cut.var_uint()?,
-            bytes: cut.octets()?,
-        })),
-        STREAM_MAX_DATA => Ok(Some(Frame::StreamMaxData {
-            stream: cut.var_uint()?,
-            max_offset: cut.limit()?,
-        })),
-        STREAM_DATA_BLOCKED => Ok(Some(Frame::StreamDataBlocked {
-            stream: cut.var_uint()?,
-            max_offset: cut.limit()?,
-        })),
+        CONNECTION_CLOSE => connection_close(contents),
+        CONNECTION_NEW_ADDRESS => connection_new_address(contents),
+        CONNECTION_MAX_DATA => connection_max_data(contents),
+        CONNECTION_DATA_BLOCKED => connection_data_blocked(contents),
+        STREAM_CLOSE => stream_close(contents),
+        STREAM_MONEY => stream_money(contents),
+        STREAM_MAX_MONEY => stream_max_money(contents),
+        STREAM_MONEY_BLOCKED => stream_money_blocked(contents),
+        STREAM_DATA => stream_data(contents),
+        STREAM_MAX_DATA => stream_max_data(contents),
+        STREAM_DATA_BLOCKED => stream_data_blocked(contents),
         _ => Ok(None),
     }
 }

@@ -51,7 +51,7 @@ pub struct Entry {
 }
 
 /// What is known of the payments and the fulfillments.
-#[derive(Clone, Copy, Debug, PartialEq, Eq)]
+#[derive(Clone, Copy)]
 pub(crate) struct Tally {
     /// How many payments there are.
     pub(crate) lines: u64,

@@ -20,7 +20,7 @@ use std::io;
 pub(crate) const MOST_FRAMES: usize = 4_294_967_295;
 
 /// How a frame fits the header of the one before it.
-#[derive(Clone, Copy, Debug, PartialEq, Eq)]
+#[derive(Clone, Copy)]
 pub(crate) enum Fit {
     /// The file ends before it does.
     Absent,

@@ -25,7 +25,7 @@ enum Side<'t> {
 }
 
 /// How far the message has been read.
-#[derive(Clone, Copy, Debug, PartialEq, Eq)]
+#[derive(Clone, Copy)]
 enum Phase {
     /// Its head has not ended.
     Head,

@@ -109,7 +109,7 @@ fn two_digits(text: &[u8; 17], at: usize) -> u32
 }
 
 /// The numbers of a date and a time of day, which may name none.
-#[derive(Clone, Copy, Debug)]
+#[derive(Clone, Copy)]
 struct Numbers {
     year: u32,
     month: u32,

@@ -18,7 +18,7 @@ use st_frames::{Frame, Frames};
 use std::alloc::Allocator;
 
 /// What counts for the connection's limit, by the streams' numbers.
-#[derive(Clone, Copy, Debug, PartialEq, Eq)]
+#[derive(Clone, Copy)]
 struct Tally {
     /// By stream number, the highest end of its data.
     ends: [u64; 65],
