@@ -15,7 +15,7 @@ ghost use Rattle.st_hop_books.specs.Commits.{Commits, Makes, Refuses, Rereads, I
 use crate::balance::{Amounts, Entry, Kind, Payment, Tally};
 use crate::error::BooksError;
 use crate::looking::find;
-use crate::names::{place_of, with_name};
+use crate::names::{place_of, with_account};
 use crate::paying::{commit_payment, next_tally, text_of};
 use crate::table::{commit_account, commit_bookings, commit_starts};
 use sqlite_disk::Disk;
@@ -276,10 +276,8 @@ impl<S: Alter> Books<S> {
             Some(_) => return Err(BooksError::NameTaken),
             None => {}
         }
-        let name = Bytes::from_slice(self.alloc, name.as_bytes())?;
-        let longer = with_name(self.alloc, self.names.as_slice(), &name)?;
-        let mut draft = Vec::from_slice(self.alloc, self.amounts.as_slice())?;
-        draft.push(Amounts { claims: 0, dues: 0 })?;
+        let (named, owed) = (self.names.as_slice(), self.amounts.as_slice());
+        let grown = with_account(self.alloc, named, owed, name.as_bytes())?;
         let Books {
             store,
             starts,
@@ -296,10 +294,10 @@ impl<S: Alter> Books<S> {
             *tally,
             names.as_slice(),
             amounts.as_slice(),
-            &name,
+            &grown.name,
         )?;
-        *names = longer;
-        *amounts = draft;
+        *names = grown.names;
+        *amounts = grown.amounts;
         Ok(at)
     }
 }
