@@ -56,6 +56,21 @@ pub(crate) struct Guest<'a, S, R: Clock> {
 }
 
 impl<S: Read + Write + OpenStream + Drop, R: Clock> Guest<'_, S, R> {
+    /// Reads these bytes of the request.
+    fn feed(&mut self, bytes: &[u8]) -> Step
+        ensures whole { result ≡ Step.Whole → IsWholeAt self.new.reading.standing }
+        ensures refused { (status : ℕ) → result ≡ Step.Refused status → self.new.reading.standing ≡ refused (Status status) }
+    {
+        match self.reading.feed(bytes) {
+            Ok(_) if self.reading.body().is_some() && self.reading.account().is_some() => {
+                Step::Whole
+            }
+            Ok(_) => Step::More,
+            Err(HttpError::Status(status)) => Step::Refused(status),
+            Err(_) => Step::Gone,
+        }
+    }
+
     /// Reads what has arrived, with one call of the stream.
     fn read(&mut self) -> Step
         ensures whole { result ≡ Step.Whole → IsWholeAt self.new.reading.standing }
@@ -67,14 +82,7 @@ impl<S: Read + Write + OpenStream + Drop, R: Clock> Guest<'_, S, R> {
         self.turns -= 1;
         let mut piece = [0; PIECE];
         match read_turn(&mut self.stream, &mut piece) {
-            ReadTurn::Bytes(n) => match self.reading.feed(&piece[..n]) {
-                Ok(_) if self.reading.body().is_some() && self.reading.account().is_some() => {
-                    Step::Whole
-                }
-                Ok(_) => Step::More,
-                Err(HttpError::Status(status)) => Step::Refused(status),
-                Err(_) => Step::Gone,
-            },
+            ReadTurn::Bytes(n) => self.feed(&piece[..n]),
             ReadTurn::Again => Step::More,
             ReadTurn::End | ReadTurn::Fault => Step::Gone,
         }
@@ -277,18 +285,35 @@ where
         ensures kept { OnErr result (self.new.left ≡ self.old.left) }
         ensures fewer { self.new.left + vec_len self.new.guests ≤ self.old.left + vec_len self.old.guests }
     {
-        let (stream, from) = match self.listener.accept() {
-            Ok(accepted) => accepted,
-            Err(error) => return self.miss(error.kind()),
-        };
-        self.failures = 0;
-        self.left -= 1;
+        match self.listener.accept() {
+            Ok((stream, from)) => {
+                self.take_in(stream, from, time);
+                Ok(())
+            }
+            Err(error) => self.miss(error.kind()),
+        }
+    }
+
+    /// Closes the oldest connection, if there are as many as may be read at once.
+    fn make_room(&mut self)
+        ensures left { self.new.left ≡ self.old.left }
+        ensures fewer { vec_len self.new.guests ≤ vec_len self.old.guests }
+    {
         if self.guests.len() >= self.most && !self.guests.is_empty() {
             drop(self.guests.remove(0));
         }
+    }
+
+    /// Takes an accepted connection in. Its request may take no longer than `time` to arrive.
+    fn take_in(&mut self, stream: L::Stream, from: SocketAddr, time: Option<Duration>)
+        requires { 0 < self.old.left }
+        ensures { self.new.left + vec_len self.new.guests ≤ self.old.left + vec_len self.old.guests }
+    {
+        self.failures = 0;
+        self.left -= 1;
+        self.make_room();
         let guest = self.guest_of(stream, from, time);
         let _ = self.guests.push(guest);
-        Ok(())
     }
 
     /// A connection of which nothing was read. Its request may take 30 seconds to arrive, and no longer than `time`.
@@ -331,6 +356,22 @@ where
         self.left == 0 && self.guests.is_empty()
     }
 
+    /// Refuses the request of a connection by this status, which is its own, and ends the connection.
+    fn dismiss(&self, guest: Guest<'a, L::Stream, R>, status: u16)
+        requires { guest.reading.standing ≡ refused (Status status) }
+    {
+        let from = guest.from;
+        guest.refuse(self.alloc, status);
+        tell_connection(self.rt, self.alloc, self.log, from, Some(status));
+    }
+
+    /// Ends a connection on which no request arrived.
+    fn let_go(&self, guest: Guest<'a, L::Stream, R>) {
+        let from = guest.from;
+        drop(guest);
+        tell_connection(self.rt, self.alloc, self.log, from, None);
+    }
+
     /// Reads what has arrived on a connection, and gives it once its request has arrived intact.
     fn read(&mut self, place: usize) -> Option<Guest<'a, L::Stream, R>>
         requires { place < vec_len self.old.guests }
@@ -344,14 +385,12 @@ where
             Step::Whole => Some(self.guests.remove(place)),
             Step::Refused(status) => {
                 let guest = self.guests.remove(place);
-                let from = guest.from;
-                guest.refuse(self.alloc, status);
-                tell_connection(self.rt, self.alloc, self.log, from, Some(status));
+                self.dismiss(guest, status);
                 None
             }
             Step::Gone => {
-                let from = self.guests.remove(place).from;
-                tell_connection(self.rt, self.alloc, self.log, from, None);
+                let guest = self.guests.remove(place);
+                self.let_go(guest);
                 None
             }
         }

@@ -98,27 +98,34 @@ impl<'a, N: Files<File = File>> Beside<'a, N> {
         }
     }
 
+    /// Makes the new file under its name of this number, with the mode of the file that it replaces, if that was found. `None`
+    /// if the name is in use.
+    fn make_by(&mut self, found: &Option<Metadata>, number: u32) -> Option<Result<File, Unmade>> {
+        let (name, process) = (self.name, getpid());
+        let Ok(beside) = format!(in self.alloc; "{name}.new.{process}.{number}") else {
+            return Some(Err(Unmade::NoMemory));
+        };
+        match created(self.rt, beside.as_str(), found.is_some()) {
+            Ok(file) => {
+                self.made = Some(beside);
+                Some(if is_like(&file, found) {
+                    Ok(file)
+                } else {
+                    Err(Unmade::Refused(Cause::Other))
+                })
+            }
+            Err(error) if error.kind() == ErrorKind::AlreadyExists => None,
+            Err(error) => Some(Err(Unmade::Refused(cause_of(&error)))),
+        }
+    }
+
     /// Makes the new file. It has the mode of the file that it replaces, if that exists. No existing file is opened: if the
     /// name is in use, another one is tried.
     fn make(&mut self) -> Result<File, Unmade> {
         let found = regular(self.rt, self.name);
-        let name = self.name;
-        let process = getpid();
         for number in 0..NAMES {
-            let Ok(beside) = format!(in self.alloc; "{name}.new.{process}.{number}") else {
-                return Err(Unmade::NoMemory);
-            };
-            match created(self.rt, beside.as_str(), found.is_some()) {
-                Ok(file) => {
-                    self.made = Some(beside);
-                    return if is_like(&file, &found) {
-                        Ok(file)
-                    } else {
-                        Err(Unmade::Refused(Cause::Other))
-                    };
-                }
-                Err(error) if error.kind() == ErrorKind::AlreadyExists => {}
-                Err(error) => return Err(Unmade::Refused(cause_of(&error))),
+            if let Some(made) = self.make_by(&found, number) {
+                return made;
             }
         }
         Err(Unmade::Refused(Cause::Taken))

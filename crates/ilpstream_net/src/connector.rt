@@ -1,7 +1,9 @@
 //! The command `connector`.
 
-ghost use Rattle.std.specs.Prelude.{◌≡◌, IfSome, IsNone, IsSome};
+ghost use Rattle.std.specs.Prelude.{◌≡◌, IfSome, IsNone, IsSome, Result};
+ghost use Rattle.ilpstream_output.specs.declared.error.Fault.{Fault};
 ghost use Rattle.ilpstream_net.specs.Table.{EndsConnector};
+ghost use Rattle.ilpstream_net.specs.Totals.{ended_with};
 
 use crate::carried::Carried;
 use crate::control::{Control, pipe_of};
@@ -81,6 +83,26 @@ fn reports_of<'r, 'a: 'r, N: Files<File = File> + std::time::Clock>(
     }
 }
 
+/// Writes the totals of a connector at its end, if a file for them was asked for, and gives what prevented it from running,
+/// if something did. Returns the result of the command.
+fn tell_reports<'a, N: Files<File = File>>(
+    reports: Reports<'_, 'a, EachMinute<'_, N>>,
+    obstacle: &mut Option<Obstacle<'a>>,
+    ended: Result<(), RunError>,
+) -> Result<(), RunError>
+    ensures none { IsNone reports.entry.minutes.telling.place → result ≡ ended }
+    ensures told { (told : Result (Unit {0}) Fault) × (result ≡ ended_with ended told) }
+{
+    let Reports {
+        totals,
+        minutes,
+        obstacle: found,
+        ..
+    } = reports;
+    *obstacle = found;
+    tell_accounts(minutes.telling, &totals, ended)
+}
+
 /// Reads the table, and runs a connector by it, with the books in a file if one is asked for. Writes its totals if a file
 /// for them is asked for: at the end, and also each minute if that file can be replaced. If the file for the totals cannot
 /// be made, or the pipe for orders cannot be opened, nothing else is done.
@@ -114,18 +136,22 @@ fn serve_reporting<
         Ok(telling) => {
             let mut reports = reports_of(rt, alloc, settings, telling, pipe, log);
             let ended = serve_table(rt, opener, alloc, settings, reader, &mut reports);
-            let Reports {
-                totals,
-                minutes,
-                obstacle: found,
-                ..
-            } = reports;
-            *obstacle = found;
-            tell_accounts(minutes.telling, &totals, ended)
+            tell_reports(reports, obstacle, ended)
         }
         Err(RunError::BadOption) => Err(RunError::BadOption),
         Err(_) => Err(RunError::Fault(Fault::NoMemory)),
     }
+}
+
+/// Writes to the log that a connector starts, and by which settings, if there is a log.
+fn tell_start<N: std::time::Clock>(rt: &N, log: Log<'_>, settings: &ConnectorSettings<'_>) {
+    let start = Start::Connector {
+        listen: settings.listen,
+        own: settings.own,
+        workers: settings.workers,
+        requests: settings.requests,
+    };
+    tell(rt, log, &Event::Start(start));
 }
 
 /// Reads the table, and runs a connector by it, as the settings say. If the log or the pipe for orders cannot be opened, or
@@ -157,13 +183,7 @@ pub fn run_connector<
         Err(_) => return Err(RunError::Fault(Fault::NoMemory)),
     };
     let log = journal.as_ref();
-    let start = Start::Connector {
-        listen: settings.listen,
-        own: settings.own,
-        workers: settings.workers,
-        requests: settings.requests,
-    };
-    tell(rt, log, &Event::Start(start));
+    tell_start(rt, log, settings);
     let ended = serve_reporting(rt, opener, alloc, settings, reader, log, obstacle);
     tell_run(rt, alloc, log, obstacle, ended)
 }

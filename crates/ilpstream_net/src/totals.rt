@@ -162,6 +162,54 @@ pub fn ended_with(ended: Result<(), RunError>, told: Result<(), Fault>) -> Resul
     Ok(())
 }
 
+/// Opens a file that is not replaced, and empties it if it can be. Fails with `BadOption` if it cannot be opened.
+fn open_place<'a, 'n: 'a, N: Files<File = File>>(
+    rt: &'a N,
+    alloc: Global,
+    name: &'n str,
+    obstacle: &mut Option<Obstacle<'n>>,
+) -> Result<Telling<'a, N>, RunError>
+    ensures some { IfOk result (λ telling. IsSome telling.place) }
+    ensures refused { IfErr result (λ e. e ≡ BadOption) }
+{
+    match File::create(rt, name) {
+        Ok(file) => {
+            let place = Some(TotalsPlace::Open(CountWrite::new(file)));
+            Ok(Telling { alloc, place })
+        }
+        Err(error) => {
+            *obstacle = Some(Obstacle::of_file(Step::Totals, name, &error));
+            Err(RunError::BadOption)
+        }
+    }
+}
+
+/// Makes a new file next to the one of this name and removes it again, to check that this can be done. Fails with
+/// `BadOption` if it cannot, and with a fault if memory is refused.
+fn place_beside<'a, 'n: 'a, N: Files<File = File>>(
+    rt: &'a N,
+    alloc: Global,
+    name: &'n str,
+    obstacle: &mut Option<Obstacle<'n>>,
+) -> Result<Telling<'a, N>, RunError>
+    ensures some { IfOk result (λ telling. IsSome telling.place) }
+    ensures refused { IfErr result (λ e. (e ≡ BadOption) ⊎ (e ≡ IsFault NoMemory)) }
+{
+    let mut beside = Beside::new(rt, alloc, name);
+    match beside.can_begin() {
+        Ok(()) => {
+            let place = Some(TotalsPlace::Beside(beside));
+            Ok(Telling { alloc, place })
+        }
+        Err(Unmade::Refused(cause)) => {
+            let step = Step::Beside;
+            *obstacle = Some(Obstacle { step, name, cause });
+            Err(RunError::BadOption)
+        }
+        Err(Unmade::NoMemory) => Err(RunError::Fault(Fault::NoMemory)),
+    }
+}
+
 /// Determines how a connector is to write its totals. If a file of that name exists and is not a regular one, it is opened,
 /// and emptied if it can be. Otherwise a new file is made next to it and removed again, to check that this can be done.
 /// Fails with `BadOption` if the file cannot be opened or made, and with a fault if memory is refused.
@@ -178,30 +226,10 @@ pub fn place_for<'a, 'n: 'a, N: Files<File = File>>(
     let Some(name) = name else {
         return Ok(Telling { alloc, place: None });
     };
-    if !is_replaced(rt, name) {
-        return match File::create(rt, name) {
-            Ok(file) => {
-                let place = Some(TotalsPlace::Open(CountWrite::new(file)));
-                Ok(Telling { alloc, place })
-            }
-            Err(error) => {
-                *obstacle = Some(Obstacle::of_file(Step::Totals, name, &error));
-                Err(RunError::BadOption)
-            }
-        };
-    }
-    let mut beside = Beside::new(rt, alloc, name);
-    match beside.can_begin() {
-        Ok(()) => {
-            let place = Some(TotalsPlace::Beside(beside));
-            Ok(Telling { alloc, place })
-        }
-        Err(Unmade::Refused(cause)) => {
-            let step = Step::Beside;
-            *obstacle = Some(Obstacle { step, name, cause });
-            Err(RunError::BadOption)
-        }
-        Err(Unmade::NoMemory) => Err(RunError::Fault(Fault::NoMemory)),
+    if is_replaced(rt, name) {
+        place_beside(rt, alloc, name, obstacle)
+    } else {
+        open_place(rt, alloc, name, obstacle)
     }
 }
 
