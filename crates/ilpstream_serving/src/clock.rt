@@ -2,7 +2,7 @@
 
 ghost use Rattle.std.specs.Prelude.{◌≡◌, ◌⊎◌, ◌/◌, ◌≤◌, ℕ, pos, MatchOption};
 ghost use Rattle.std.specs.Duration.{as_nanos};
-ghost use Rattle.ilpstream_serving.specs.Moments.{IsMomentOf, Tells, last_told};
+ghost use Rattle.ilpstream_serving.specs.Moments.{IsMomentOf, Tells, followed, last_told, step_back};
 
 use crate::telling::{Log, tell_set_back};
 use st_ilp::Moment;
@@ -49,6 +49,30 @@ impl LastMoment {
         LastMoment { moment }
     }
 
+    /// The moment for this one, which was read of the runtime's clock. If that is earlier than the last one by at most five
+    /// seconds, it is the last one again.
+    fn follow(&mut self, read: Moment) -> Present
+        ensures moment { result.moment ≡ followed self.old.moment read }
+        ensures set_back { result.set_back ≡ step_back self.old.moment read }
+        ensures last { self.new.moment ≡ result.moment }
+    {
+        let back = self.moment.ms() - read.ms();
+        if back > MOST_KEPT {
+            self.moment = read;
+            return Present {
+                moment: read,
+                set_back: Some(back.unsigned_abs()),
+            };
+        }
+        if self.moment.ms() < read.ms() {
+            self.moment = read;
+        }
+        Present {
+            moment: self.moment,
+            set_back: None,
+        }
+    }
+
     /// The moment for one reading of the runtime's clock: what was read. If that is earlier than the last one by at most
     /// five seconds, could not be read, or is past the last `Moment`, it is the last one again.
     fn tell(&mut self, read: io::Result<Duration>) -> Present
@@ -62,21 +86,9 @@ impl LastMoment {
         let Ok(since) = read else {
             return kept;
         };
-        let Some(moment) = moment_of(since) else {
-            return kept;
-        };
-        let back = self.moment.ms() - moment.ms();
-        if back > MOST_KEPT {
-            self.moment = moment;
-            let set_back = Some(back.unsigned_abs());
-            return Present { moment, set_back };
-        }
-        if self.moment.ms() < moment.ms() {
-            self.moment = moment;
-        }
-        Present {
-            moment: self.moment,
-            set_back: None,
+        match moment_of(since) {
+            Some(moment) => self.follow(moment),
+            None => kept,
         }
     }
 }

@@ -13,7 +13,7 @@ use crate::books::Books;
 use crate::continuing::refuse_strange_log;
 use crate::error::BooksError;
 use crate::making::{LEAST_LEN, holds_nothing, refuse_damage};
-use crate::opening::{books_of, refusal_of};
+use crate::opening::{folded_books, refusal_of};
 use sqlite::{Connection, FileFrom, FileStore, Files, Options, Start};
 use sqlite_disk::Disk;
 use sqlite_std_file::OpenError;
@@ -52,11 +52,10 @@ pub fn open_existing_files<D: Disk + Drop>(
     refuse_damage(alloc, &mut files.log)?;
     refuse_nothing(alloc, &mut files)?;
     refuse_strange_log(alloc, &mut files)?;
-    let books = match Connection::open_files(alloc, files, options) {
-        Ok(conn) => books_of(alloc, conn, false, None, "")?,
-        Err((error, _)) => return Err(refusal_of(error)),
-    };
-    books.folded()
+    match Connection::open_files(alloc, files, options) {
+        Ok(conn) => folded_books(alloc, conn, false, None, ""),
+        Err((error, _)) => Err(refusal_of(error)),
+    }
 }
 
 /// Refuses if there is no file, or an empty one.

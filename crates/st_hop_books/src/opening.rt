@@ -7,7 +7,7 @@ ghost use Rattle.sqlite.specs.Steps.{IsFresh};
 ghost use Rattle.sqlite_trees.specs.declared.store.Shape.TheVariants as shapes;
 ghost use Rattle.sqlite_wal.specs.Files.{image_at};
 ghost use Rattle.sqlite_store.specs.FileStore.{view};
-ghost use Rattle.sqlite.specs.Files.{image_of};
+ghost use Rattle.sqlite.specs.Files.{file_state, image_of, over_files};
 ghost use Rattle.sqlite.specs.State.{HasCleanDisk};
 ghost use Rattle.sqlite.specs.Held.{state};
 ghost use Rattle.st_hop_books.specs.Payments.{ArePayments};
@@ -165,7 +165,7 @@ fn new_books<S: Alter + Drop>(
 
 /// The books of a database, which are of this address, if one is asked for. If it lists nothing they are made with this text of
 /// their view, if they may be.
-pub(crate) fn books_of<S: Alter + Drop>(
+fn books_of<S: Alter + Drop>(
     alloc: Global,
     conn: Connection<S>,
     may_make: bool,
@@ -187,6 +187,23 @@ pub(crate) fn books_of<S: Alter + Drop>(
     } else {
         books_in(alloc, store, own)
     }
+}
+
+/// The books of a database in files, as `books_of` finds or makes them. Their log is folded into the database file.
+pub(crate) fn folded_books<D: Disk + Drop>(
+    alloc: Global,
+    conn: Connection<FileStore<D>>,
+    may_make: bool,
+    own: Option<&str>,
+    text: &str,
+) -> Result<Books<FileStore<D>>, BooksError>
+    requires { IsTrue may_make → IsStampText text.now }
+    ensures clean { IfOk result (λ b. IsClean (view b.store) → HasCleanDisk (file_state conn)) }
+    ensures taken { IfOk result (λ b. IsClean (view b.store) → Takes over_files (file_state conn).committed.trees b) }
+    ensures listed { IfOk result (λ b. may_make ≡ false → IsClean (view b.store) → ListsTables ((file_state conn).committed.trees catalog_tree)) }
+    ensures own { IfOk result (λ b. IsClean (view b.store) → IfSome own.entry (λ a. IsOf a.now ((view b.store).committed catalog_tree))) }
+{
+    books_of(alloc, conn, may_make, own, text)?.folded()
 }
 
 /// Why SQLite's file was not opened.
@@ -217,11 +234,10 @@ pub fn open_files<D: Disk + Drop>(
     let text = new_stamp(alloc, identity, own)?;
     let may_make = may_make(alloc, &mut files)?;
     refuse_strange_log(alloc, &mut files)?;
-    let books = match Connection::open_files_with(alloc, files, options, true) {
-        Ok(conn) => books_of(alloc, conn, may_make, Some(own), text.as_str())?,
-        Err((error, _)) => return Err(refusal_of(error)),
-    };
-    books.folded()
+    match Connection::open_files_with(alloc, files, options, true) {
+        Ok(conn) => folded_books(alloc, conn, may_make, Some(own), text.as_str()),
+        Err((error, _)) => Err(refusal_of(error)),
+    }
 }
 
 /// Opens the books of a file, or makes them if neither the file nor its log is there, or the file is empty.

@@ -5,8 +5,7 @@ use Rattle.sqlite.specs.Files.{file_state, IsNothing}
 use Rattle.sqlite.specs.Start.{FindsIn}
 use Rattle.sqlite.proofs.FileLemmas.{same_image}
 use Rattle.st_hop_books.specs.Continuing.{IsContinued}
-use Rattle.st_hop_books.proofs.Folding.{takes_folded}
-use Rattle.st_hop_books.proofs.Steps.{ok_four}
+use Rattle.st_hop_books.proofs.Steps.{ok_three}
 use Rattle.st_hop_books.proofs.existing.open_existing_files.Goals as goal
 
 abbrev image : List ℕ → List ℕ → Image
@@ -17,19 +16,17 @@ returns g c =
     let first = ap (image (g.D.Disk.seen c.args.files.db)) c.refuse_damage.ensures.same.seen in
     let read = same_image c.refuse_nothing.ensures.log c.refuse_nothing.ensures.db ∙ first in
     let same = same_image c.refuse_strange_log.ensures.log c.refuse_strange_log.ensures.db ∙ read in
-    ok_four c.folded.result _ _ _ _ _ (λ b sums clean shown crash now.
-    let was = clean now in
-    let early = c.in_ok-books-in-Ok.ensures.clean was in
-    let f = c.in-Ok.ensures.found early in
+    ok_three c.folded_books.result _ _ _ _ (λ b clean taken listed now.
+    let f = c.in-Ok.ensures.found (clean now) in
     let before = both_clean _ _ _ _ c.refuse_strange_log.ensures.log.clean c.refuse_strange_log.ensures.db.clean f.honest in
     record {
       finds = record {
         opened = c.in-Ok.conn;
         found = subst (λ (i : Image). FindsIn i (file_state c.in-Ok.conn)) same (record { holds = f.holds; reads = f.reads });
-        takes = takes_folded _ _ b sums (shown now) crash (c.in_ok-books-in-Ok.ensures.taken was);
+        takes = taken now;
       };
       whole = c.in_ok-refuse_damage.ensures.whole (c.refuse_nothing.ensures.log.clean (halves g.D.Disk _ _ before).0);
       continued = subst IsContinued read (c.in_ok-refuse_strange_log.ensures.continued f.honest);
       something = subst (λ (i : Image). ¬ IsNothing i) first (c.in_ok-refuse_nothing.ensures.something before);
-      listed = c.in_ok-books-in-Ok.ensures.listed refl was;
-    }) c.folded.ensures.sums c.folded.ensures.clean c.folded.ensures.same c.folded.ensures.crash
+      listed = listed refl now;
+    }) c.folded_books.ensures.clean c.folded_books.ensures.taken c.folded_books.ensures.listed
