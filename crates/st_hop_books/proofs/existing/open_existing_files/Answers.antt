@@ -11,8 +11,8 @@ use Rattle.st_hop_books.proofs.existing.open_existing_files.Goals as goal
 abbrev image : List ℕ → List ℕ → Image
 image db log = record { log = log; db = db }
 
-pub returns : goal.returns
-returns g c =
+pub returns-in-Ok : goal.returns-in-Ok
+returns-in-Ok g c =
     let first = ap (image (g.D.Disk.seen c.args.files.db)) c.refuse_damage.ensures.same.seen in
     let read = same_image c.refuse_nothing.ensures.log c.refuse_nothing.ensures.db ∙ first in
     let same = same_image c.refuse_strange_log.ensures.log c.refuse_strange_log.ensures.db ∙ read in

@@ -8,8 +8,8 @@ use Rattle.st_hop_books.specs.Continuing.{IsContinued}
 use Rattle.st_hop_books.proofs.Steps.{ok_four}
 use Rattle.st_hop_books.proofs.opening.open_files.Goals as goal
 
-pub returns : goal.returns
-returns g c =
+pub returns-in-Ok : goal.returns-in-Ok
+returns-in-Ok g c =
     let first = same_image c.may_make.ensures.log c.may_make.ensures.db in
     let same = same_image c.refuse_strange_log.ensures.log c.refuse_strange_log.ensures.db ∙ first in
     ok_four c.folded_books.result _ _ _ _ _ (λ b clean taken listed own now.
