@@ -1,7 +1,7 @@
 //! A command that is being put together.
 
 ghost use Rattle.std.specs.Prelude.{◌≡◌, false, IfOk, IsOk};
-ghost use Rattle.clap.specs.Words.{App, Rule, Shape, rule_of, with_subcommand};
+ghost use Rattle.clap.specs.Words.{App, Rule, Shape, app_of, rule_of, with_subcommand};
 ghost use Rattle.ilpstream_words.specs.Program.{Adds, HasShape, IsApp, with_rule};
 
 use clap::{Arg, Command};
@@ -55,15 +55,27 @@ impl<'a> Draft<'a> {
         }
     }
 
+    /// The program of this command with one further command.
+    fn joined(command: Command<'a>, further: Draft<'a>) -> Draft<'a>
+        ensures { (a : App) (s : Shape) → app_of command.entry ≡ a → HasShape s further.entry → IsApp (with_subcommand a s) result }
+    {
+        match further.command {
+            Ok(further) => Draft {
+                command: command.subcommand(further),
+            },
+            Err(refused) => Draft {
+                command: Err(refused),
+            },
+        }
+    }
+
     /// The program with one further command.
     pub(crate) fn with_command(self, further: Draft<'a>) -> Draft<'a>
         ensures { (a : App) (s : Shape) → IsApp a self.entry → HasShape s further.entry → IsApp (with_subcommand a s) result }
     {
-        match (self.command, further.command) {
-            (Ok(command), Ok(further)) => Draft {
-                command: command.subcommand(further),
-            },
-            (Err(refused), _) | (_, Err(refused)) => Draft {
+        match self.command {
+            Ok(command) => Draft::joined(command, further),
+            Err(refused) => Draft {
                 command: Err(refused),
             },
         }

@@ -1,6 +1,7 @@
 //! Which rule the text of an option breaks.
 
 use crate::request::{connector, parse, receive, send};
+use clap::ArgMatches;
 use ilpstream_settings::{
     ConnectorOptions, ReceiveOptions, SendOptions, read_number, read_rate, read_secret,
 };
@@ -81,6 +82,19 @@ fn connector_rule(it: &ConnectorOptions<'_>) -> &'static str {
     }
 }
 
+/// The rule that a text of the command of this name breaks.
+fn rule_of(name: &str, matches: &ArgMatches<'_>) -> &'static str {
+    match name {
+        "send" => send_rule(&send(matches)),
+        "receive" => receive_rule(&receive(matches)),
+        "connector" => connector_rule(&connector(matches)),
+        "ledger" => {
+            "after FILE comes settle NAME AMOUNT, settle NAME -AMOUNT or adjust NAME claims|dues N, and --reference TEXT"
+        }
+        _ => DIGITS,
+    }
+}
+
 /// The rule that the text of an option breaks, for arguments that `read_words` answers with `BadOption`. `None` for others
 /// that clap refuses, and if memory is refused.
 pub fn broken_rule<S: AsStr>(alloc: Global, words: &[S]) -> Option<&'static str> {
@@ -88,13 +102,5 @@ pub fn broken_rule<S: AsStr>(alloc: Global, words: &[S]) -> Option<&'static str>
         return None;
     };
     let (name, inner) = matches.subcommand()?;
-    Some(match name {
-        "send" => send_rule(&send(inner)),
-        "receive" => receive_rule(&receive(inner)),
-        "connector" => connector_rule(&connector(inner)),
-        "ledger" => {
-            "after FILE comes settle NAME AMOUNT, settle NAME -AMOUNT or adjust NAME claims|dues N, and --reference TEXT"
-        }
-        _ => DIGITS,
-    })
+    Some(rule_of(name, inner))
 }

@@ -85,7 +85,8 @@ impl<A: Allocator + Copy> World<A> {
         ensures unchanged { OnErr result (self.new ≡ self.old) }
         ensures memory { IfOk result (λ told. lacks (told_seen told) ≡ true → MayLack (event_seen event.now)) }
     {
-        self.trace.take_event(&mut self.links, event)
+        let told = self.trace.take_event(&mut self.links, event)?;
+        Ok(told)
     }
 
     /// Plays a list of events, and gives the result of the run. If an event could not be recorded, it gives the error
