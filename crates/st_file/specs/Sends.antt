@@ -1,5 +1,5 @@
 -- What a sink received from a reader.
-use Rattle.std.specs.Prelude.{◌≡◌, ℕ, ◌+◌, ◌≤◌, List, [], ◌++◌, length, true, Option, Result, Ok, Err, Vec}
+use Rattle.std.specs.Prelude.{◌≡◌, ℕ, ◌+◌, ◌≤◌, List, [], ◌++◌, length, true, Option, Some, None, Result, Ok, Err, Vec}
 use Rattle.std.specs.Io.KnownBytes.{Consumes, IsAtEnd, Keeps}
 use Rattle.st_file.specs.Errors.{counted}
 use Rattle.st_file.specs.Sinks.{Taken}
@@ -63,3 +63,9 @@ PutsPiece sent old new piece (Err e) = Stops sent e × (new.bytes ≡ old.bytes)
 abbrev pub PutsEnd : {T : Type 0} → ℕ → Taken → Taken → Result T FileError → Type 0
 PutsEnd sent old new (Ok x) = (new.bytes ≡ old.bytes) × (new.ended ≡ true)
 PutsEnd sent old new (Err e) = Stops sent e × (new.bytes ≡ old.bytes) × (new.ended ≡ old.ended)
+
+-- a chunk was accepted after `sent` bytes, or an end for an empty one; or no more was accepted
+abbrev pub PutsNext : ℕ → Taken → Taken → List ℕ → Result (Option ℕ) FileError → Type 0
+PutsNext sent old new piece (Ok (Some n)) = (n ≡ counted (sent + length piece)) × (new.bytes ≡ old.bytes ++ piece) × (new.ended ≡ old.ended)
+PutsNext sent old new piece (Ok None) = (piece ≡ []) × (new.bytes ≡ old.bytes) × (new.ended ≡ true)
+PutsNext sent old new piece (Err e) = Stops sent e × (new.bytes ≡ old.bytes) × (new.ended ≡ old.ended)

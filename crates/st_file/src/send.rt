@@ -2,7 +2,7 @@
 
 ghost use Rattle.std.specs.Prelude.{◌≡◌, ◌<◌, IfOk, IfErr, IsOk};
 ghost use Rattle.st_file.specs.Errors.{IsTurns, faults_reported};
-ghost use Rattle.st_file.specs.Sends.{ExplainsSend, PutsEnd, PutsPiece, ReadsPiece, SentAll};
+ghost use Rattle.st_file.specs.Sends.{ExplainsSend, PutsEnd, PutsNext, PutsPiece, ReadsPiece, SentAll};
 ghost use Rattle.st_file.specs.Spending.{SpendsTurns, TakesAsks};
 ghost use Rattle.st_devices.specs.Tallies.{TakesTurns, device_of, tally_of};
 
@@ -95,6 +95,25 @@ fn put_end<K: Sink<Vec<u8, A>>, A: Allocator + Copy>(
     Err(FileError::Turns(sent))
 }
 
+/// Puts a chunk into a sink, or ends the sink if the chunk is empty. Returns how many bytes are sent then, or `None`
+/// after the end.
+fn put_next<K: Sink<Vec<u8, A>>, A: Allocator + Copy>(
+    sink: &mut K,
+    piece: Vec<u8, A>,
+    sent: u64,
+    turns: &mut u64,
+) -> Result<Option<u64>, FileError>
+    ensures put { PutsNext sent (K.taken sink.old) (K.taken sink.new) piece.items result }
+    ensures turns { TakesAsks (K.taken sink.old).calls (K.taken sink.new).calls turns.old turns.new }
+    ensures out_of_turns { IfErr result (λ e. IsTurns e → turns.new ≡ 0) }
+{
+    if piece.is_empty() {
+        put_end(sink, sent, turns)?;
+        return Ok(None);
+    }
+    Ok(Some(put_piece(sink, piece, sent, turns)?))
+}
+
 /// Moves all bytes of a reader to a sink, in chunks of at most `PIECE` bytes, and then ends the sink. Returns how many
 /// bytes the sink accepted. Each call of the reader or the sink uses up one of `turns`.
 ///
@@ -118,10 +137,9 @@ pub fn send_all<R: Read, K: Sink<Vec<u8, A>>, A: Allocator + Copy>(
     let mut sent = 0;
     loop {
         let piece = read_piece(alloc, reader, sent, &mut left)?;
-        if piece.is_empty() {
-            put_end(sink, sent, &mut left)?;
-            return Ok(sent);
+        match put_next(sink, piece, sent, &mut left)? {
+            Some(more) => sent = more,
+            None => return Ok(sent),
         }
-        sent = put_piece(sink, piece, sent, &mut left)?;
     }
 }

@@ -1,7 +1,8 @@
 -- What holds of each element at its place.
-use Rattle.std.proofs.Common.{◌≡◌, ℕ, zero, suc, List, [], ◌∷◌, ◌++◌, length, map, set, Some, slice_get, sym, ap, ◌∙◌, subst}
+use Rattle.std.proofs.Common.{◌≡◌, ℕ, zero, suc, ◌+◌, List, [], ◌∷◌, ◌++◌, length, map, set, Some, slice_get, sym, ap, ◌∙◌, subst, arith}
 use Rattle.std.specs.Prelude.{slice_index_or}
 use Rattle.std.specs.Option.{option_map}
+use Rattle.std.proofs.lemmas.List.{length-append}
 use Rattle.std.proofs.lemmas.Option.{slice_get-map, get_or_from_slice_get}
 
 abbrev pub Each : {A : Type 0} → (ℕ → A → Type 0) → List A → Type 0
@@ -27,3 +28,7 @@ at_map f xs k x d e = get_or_from_slice_get (map f xs) k (f x) d (slice_get-map 
 -- one more at the end
 pub each-grown : {A : Type 0} (P : ℕ → A → Type 0) (xs ys : List A) (n : ℕ) (y : A) → Each P xs → ys ≡ xs ++ y ∷ [] → n ≡ length xs → P n y → Each P ys
 each-grown {A} P xs ys n y h grown at p = subst (λ (zs : List A). Each P zs) (sym grown) (each-push P xs y h (subst (λ k. P k y) at p))
+
+-- and the length that goes with it
+pub length_grown : {A : Type 0} (xs ys : List A) (old new n : ℕ) (y : A) → new ≡ length ys → ys ≡ xs ++ y ∷ [] → old ≡ length xs → old ≡ n → new ≡ n + 1
+length_grown xs ys old new n y whole grown at is = omega (arith, ap length grown, length-append xs (y ∷ []))
