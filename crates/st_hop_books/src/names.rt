@@ -31,11 +31,7 @@ pub(crate) fn place_of(names: &[Bytes], name: &[u8]) -> Option<usize>
 }
 
 /// These names, followed by another.
-fn with_name(
-    alloc: Global,
-    names: &[Bytes],
-    name: &Bytes,
-) -> Result<Vec<Bytes>, BooksError>
+fn with_name(alloc: Global, names: &[Bytes], name: &Bytes) -> Result<Vec<Bytes>, BooksError>
     ensures named { IfOk result (λ v. v.items ≡ names.now ++ name.now ∷ []) }
     ensures cause { IfErr result (λ e. e ≡ NoMemory) }
 {
