@@ -81,8 +81,8 @@ impl<A: Allocator + Copy> Trace<A> {
             return Ok(Told::Nothing);
         };
         match way {
-            Way::ToServer => { self.arrive_for_server(links, link, which, &put, now) }
-            Way::ToClient => { self.arrive_for_client(links, link, which, &put, now) }
+            Way::ToServer => self.arrive_for_server(links, link, which, &put, now),
+            Way::ToClient => self.arrive_for_client(links, link, which, &put, now),
         }
     }
 
@@ -160,8 +160,8 @@ impl<A: Allocator + Copy> Trace<A> {
             return Ok(Told::Nothing);
         };
         match way {
-            Way::ToServer => { self.back_for_server(links, link, which, &put, outcome, now) }
-            Way::ToClient => { self.back_for_client(links, link, which, &put, outcome, now) }
+            Way::ToServer => self.back_for_server(links, link, which, &put, outcome, now),
+            Way::ToClient => self.back_for_client(links, link, which, &put, outcome, now),
         }
     }
 

@@ -30,8 +30,8 @@ pub(crate) fn send_on<A: Allocator + Copy>(
 {
     let over = &mut links[link];
     match way {
-        Way::ToServer => { send_from(party, &mut over.client, iv, now) }
-        Way::ToClient => { send_from(party, &mut over.server, iv, now) }
+        Way::ToServer => send_from(party, &mut over.client, iv, now),
+        Way::ToClient => send_from(party, &mut over.server, iv, now),
     }
 }
 
@@ -52,8 +52,8 @@ pub(crate) fn meet_end<A: Allocator + Copy>(
 {
     let over = &mut links[link];
     match way {
-        Way::ToServer => { arrive_at_end(party, &mut over.client, which, bytes, now) }
-        Way::ToClient => { arrive_at_end(party, &mut over.server, which, bytes, now) }
+        Way::ToServer => arrive_at_end(party, &mut over.client, which, bytes, now),
+        Way::ToClient => arrive_at_end(party, &mut over.server, which, bytes, now),
     }
 }
 

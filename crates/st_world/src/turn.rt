@@ -27,7 +27,7 @@ impl<A: Allocator + Copy> Trace<A> {
     {
         match event {
             Event::OpenStream(side) => Ok(self.open(*side)),
-            Event::Write(side, stream, bytes) => { self.write(*side, *stream, bytes) }
+            Event::Write(side, stream, bytes) => self.write(*side, *stream, bytes),
             Event::Read(side, stream, max) => {
                 if *max == 0 {
                     return Ok(Told::Nothing);
