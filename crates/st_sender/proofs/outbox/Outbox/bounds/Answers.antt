@@ -1,7 +1,9 @@
-use Rattle.std.proofs.Common.{rules, ◌<◌, ◌^◌, ◌∙◌, length, refl, sym, ap, arith}
+use Rattle.std.proofs.Common.{rules, ◌<◌, ◌^◌, ◌∙◌, length, refl, sym, ap, arith, subst}
 use Rattle.st_sender.proofs.Said.{barred_by, unbarred_by}
 use Rattle.st_sender.proofs.Planned.{below, small_last}
 use Rattle.std.proofs.lemmas.Grind.{common_steps}
+use Rattle.st_sender.specs.Sending.{Sending}
+use Rattle.st_sender.specs.InFlight.{AreEnds}
 use Rattle.st_sender.proofs.outbox.Outbox.bounds.Goals as goal
 
 pub returns-in-None : goal.returns-in-None
@@ -29,3 +31,9 @@ returns-then-self-packets g c = grind (arith, common_steps)
 
 pub spare-requires-clause-streams : goal.spare-requires-clause-streams
 spare-requires-clause-streams g c = ap length c.deref.ensures.value ∙ c.self.invariant.0
+
+pub spare-requires-clause-tops : goal.spare-requires-clause-tops
+spare-requires-clause-tops g c = rw c.deref-2.ensures.value (subst (λ (p : Sending). AreEnds p.flights c.args.tops.now) (sym c.self.view_is) c.requires)
+
+pub overflow_add-result : goal.overflow_add-result
+overflow_add-result g c = omega (arith, small_last _ _ c.if-self-packets.false c.packets.ensures.few)
