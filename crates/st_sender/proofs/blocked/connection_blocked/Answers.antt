@@ -26,3 +26,12 @@ returns-then-was_blocked g c = λ d. let e = sym c.if-was_blocked.true ∙ c.was
 
 pub returns-then-notice_size-bounds : goal.returns-then-notice_size-bounds
 returns-then-notice_size-bounds g c = λ d. absurd (omega (arith, c.notice_size.ensures, c.if-notice_size-bounds.true, d.short))
+
+pub with-requires : goal.with-requires
+with-requires g c = c.ends_of-ends.ensures
+
+pub is_any_held-requires-clause-small : goal.is_any_held-requires-clause-small
+is_any_held-requires-clause-small g c = c.requires.small
+
+pub is_any_held-requires-clause-streams : goal.is_any_held-requires-clause-streams
+is_any_held-requires-clause-streams g c = c.requires.streams

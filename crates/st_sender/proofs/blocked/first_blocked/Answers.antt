@@ -2,6 +2,7 @@ use Rattle.std.proofs.Common.{◌<◌, arith, sym, subst, ◌∙◌}
 use Rattle.st_sender.proofs.Totals.{found_at}
 use Rattle.st_sender.proofs.Changing.{same_lane, no_lane}
 use Rattle.st_sender.proofs.Said.{one_more}
+use Rattle.st_sender.proofs.Within.{up_to}
 use Rattle.st_sender.proofs.blocked.first_blocked.Goals as goal
 use Rattle.st_sender.proofs.blocked.first_blocked.Goals.{in-Some+in_default-blocked, in_default}
 
@@ -30,3 +31,6 @@ loop-number-init g c = λ k l h e f b. absurd (omega (arith, h))
 
 pub bounds-streams-number : goal.bounds-streams-number
 bounds-streams-number g c = omega (arith, c.requires, c.loop-number-test.true)
+
+pub offset_bounds-streams-number : goal.offset_bounds-streams-number
+offset_bounds-streams-number g c = up_to 65 _ _ c.requires c.loop-number-test.true

@@ -2,6 +2,7 @@ use Rattle.std.proofs.Common.{◌<◌, arith, sym, subst, ◌∙◌}
 use Rattle.st_sender.proofs.Totals.{found_at}
 use Rattle.st_sender.proofs.Changing.{same_lane, no_lane}
 use Rattle.st_sender.proofs.Said.{held_more}
+use Rattle.st_sender.proofs.Within.{up_to, fits_below}
 use Rattle.st_sender.proofs.blocked.is_any_held.Goals as goal
 use Rattle.st_sender.proofs.blocked.is_any_held.Goals.{in-Some+else-is_held, in_default}
 
@@ -36,3 +37,12 @@ returns-clause-yes g c = λ t. absurd cc
 
 pub bounds-streams-number : goal.bounds-streams-number
 bounds-streams-number g c = omega (arith, c.requires.streams, c.loop-number-test.true)
+
+pub offset_bounds-streams-number : goal.offset_bounds-streams-number
+offset_bounds-streams-number g c = up_to 65 _ _ c.requires.streams c.loop-number-test.true
+
+pub overflow_cast-number : goal.overflow_cast-number
+overflow_cast-number g c = fits_below _ c.loop-number-test.true
+
+pub is_held-requires : goal.is_held-requires
+is_held-requires g c = c.requires.small

@@ -1,3 +1,4 @@
+use Rattle.std.proofs.lemmas.Result.{IfOk-from_err}
 use Rattle.std.proofs.Common.{◌<◌, List, arith, sym, ap, subst, ◌∙◌, refl}
 use Rattle.st_sender.specs.declared.bounds.Bounds.{Bounds}
 use Rattle.st_sender.specs.declared.load.SentFrame as code
@@ -55,3 +56,12 @@ returns g c = (
 
 pub bounds-streams-number : goal.bounds-streams-number
 bounds-streams-number g c = omega (arith, c.requires, c.loop-number-test.true)
+
+pub overflow_cast-number : goal.overflow_cast-number
+overflow_cast-number g c = omega (arith, c.loop-number-test.true)
+
+pub offset_bounds-streams-number : goal.offset_bounds-streams-number
+offset_bounds-streams-number g c = omega (arith, c.requires, c.loop-number-test.true)
+
+pub returns-in_err-push : goal.returns-in_err-push
+returns-in_err-push g c = IfOk-from_err c.from_residual.result _ c.from_residual.ensures.0

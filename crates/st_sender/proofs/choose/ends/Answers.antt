@@ -1,7 +1,8 @@
-use Rattle.std.proofs.Common.{◌≡◌, ◌<◌, arith, subst, sym, ap, ◌∙◌}
+use Rattle.std.proofs.Common.{◌<◌, arith, subst, sym, ap, ◌∙◌}
 use Rattle.st_sender.specs.Allowed.{end_in}
 use Rattle.st_sender.proofs.Totals.{found_at}
 use Rattle.st_sender.proofs.Sums.{ends_next, ends_done}
+use Rattle.st_sender.proofs.Within.{up_to, fits_below}
 use Rattle.st_sender.proofs.choose.ends.Goals as goal
 use Rattle.st_sender.proofs.choose.ends.Goals.{in-Some, in-None}
 
@@ -31,3 +32,9 @@ overflow_add-total g c = omega (arith, c.loop-number.invariant.1, c.loop-number-
 
 pub bounds-streams-number : goal.bounds-streams-number
 bounds-streams-number g c = omega (arith, c.requires, c.loop-number-test.true)
+
+pub offset_bounds-streams-number : goal.offset_bounds-streams-number
+offset_bounds-streams-number g c = up_to 65 _ _ c.requires c.loop-number-test.true
+
+pub overflow_cast-number : goal.overflow_cast-number
+overflow_cast-number g c = fits_below _ c.loop-number-test.true

@@ -1,4 +1,5 @@
-use Rattle.std.proofs.Common.{◌≡◌, ◌<◌, [], ◌∷◌, ◌++◌, List, Some, length, arith, sym, ap, subst, ◌∙◌, inr}
+use Rattle.std.proofs.lemmas.Result.{IfOk-from_err}
+use Rattle.std.proofs.Common.{◌≡◌, ◌<◌, [], ◌∷◌, ◌++◌, List, Some, length, arith, sym, ap, subst, ◌∙◌, inr, inl}
 use Rattle.st_streams.specs.Slots.{slot}
 use Rattle.st_sender.specs.declared.bounds.Bounds.{Bounds}
 use Rattle.st_sender.specs.declared.load.SentFrame as code
@@ -10,6 +11,7 @@ use Rattle.st_sender.proofs.Changing.{same_lane, no_lane}
 use Rattle.st_sender.proofs.Said.{alone_is}
 use Rattle.st_sender.proofs.Planned.{no_frames, filled_is}
 use Rattle.st_sender.proofs.Serving.{left_none, left_push, unable_stopped, served_none, served_push, served_skip}
+use Rattle.st_sender.proofs.Within.{within, up_to, fits_below, at_most}
 use Rattle.st_sender.proofs.choose.round.Goals as goal
 use Rattle.st_sender.proofs.choose.round.Goals.{in-Some+in-Some-ready+in_ok-push, in-Some+in_default-ready+else-not-is_empty, else-not-is_empty-via-then-not-is_empty+else-may_fly, else-not-is_empty-via-else-not-is_empty, in_default}
 
@@ -93,3 +95,30 @@ loop-place-preserved g c =
             left,
           )
     ]
+
+pub returns-in_err-push : goal.returns-in_err-push
+returns-in_err-push g c = IfOk-from_err c.from_residual.result _ c.from_residual.ensures.0
+
+pub in_round-number-requires-clause-start : goal.in_round-number-requires-clause-start
+in_round-number-requires-clause-start g c = at_most _ _ 65 c.min-start.ensures
+
+pub in_round-number-requires-clause-place : goal.in_round-number-requires-clause-place
+in_round-number-requires-clause-place g c = c.loop-place-test.true
+
+pub overflow_cast-number : goal.overflow_cast-number
+overflow_cast-number g c = fits_below _ c.in_round-number.ensures.within
+
+pub offset_bounds-streams-number : goal.offset_bounds-streams-number
+offset_bounds-streams-number g c = up_to 65 _ _ c.requires.streams c.in_round-number.ensures.within
+
+pub bounds-streams-number : goal.bounds-streams-number
+bounds-streams-number g c = within 65 _ _ c.requires.streams c.in_round-number.ensures.within
+
+pub beside-left-requires : goal.beside-left-requires
+beside-left-requires g c = c.in-Some-ready.ensures.ready.short
+
+pub may_fly-requires : goal.may_fly-requires
+may_fly-requires g c = c.requires.small
+
+pub returns : goal.returns
+returns g c = record { count = c.loop-place.place; within = c.loop-place.auto.place-end; are = c.loop-place.invariant.0; ends = inl (omega (arith, c.loop-place-test.false, c.loop-place.auto.place-end)) }

@@ -9,3 +9,9 @@ overflow_sub-result g c = omega (arith, c.if-total-from.false, c.from.ensures, c
 
 pub returns : goal.returns
 returns g c = (omega (arith, c.if-total-from.false, c.from.ensures, (rw c.with.ensures at c.ends-total.ensures)), omega (arith, c.from-2.ensures, (rw c.with.ensures at c.ends-total.ensures)))
+
+pub with-requires : goal.with-requires
+with-requires g c = c.requires.tops
+
+pub ends-total-requires : goal.ends-total-requires
+ends-total-requires g c = c.requires.streams

@@ -84,3 +84,12 @@ pub returns-clause-nothing : goal.returns-clause-nothing
 returns-clause-nothing g c =
     let last : c.loop-number.number ≡ 65 = omega (arith, c.loop-number-test.false, c.loop-number.auto.number-end) in
     subst (λ n. c.loop-number.payments.items ≡ [] → 34 ≤ c.args.room → min c.args.limit (all_payable c.args.streams.now c.args.least c.args.flights.now n) ≡ 0) last c.loop-number.invariant.2
+
+pub overflow_cast-number : goal.overflow_cast-number
+overflow_cast-number g c = omega (arith, c.loop-number-test.true)
+
+pub offset_bounds-streams-number : goal.offset_bounds-streams-number
+offset_bounds-streams-number g c = omega (arith, c.requires, c.loop-number-test.true)
+
+pub bounds-streams-number : goal.bounds-streams-number
+bounds-streams-number g c = omega (arith, c.requires, c.loop-number-test.true)

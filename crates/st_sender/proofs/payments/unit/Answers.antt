@@ -43,3 +43,12 @@ loop-number-init g c = λ k h some any. absurd (omega (arith, h))
 
 pub returns-then-limit-eq0 : goal.returns-then-limit-eq0
 returns-then-limit-eq0 g c = λ k h some any. absurd (omega (arith, any, c.if-limit-eq0.true))
+
+pub overflow_cast-number : goal.overflow_cast-number
+overflow_cast-number g c = omega (arith, c.loop-number-test.true)
+
+pub offset_bounds-streams-number : goal.offset_bounds-streams-number
+offset_bounds-streams-number g c = omega (arith, c.requires, c.loop-number-test.true)
+
+pub bounds-streams-number : goal.bounds-streams-number
+bounds-streams-number g c = omega (arith, c.requires, c.loop-number-test.true)

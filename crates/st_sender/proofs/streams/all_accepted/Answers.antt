@@ -22,3 +22,6 @@ loop-place-preserved g c = (
 pub returns : goal.returns
 returns g c =
     total_whole (λ (lanes : Slots SendStream). all_accepted (outs lanes)) refl c.deref-place-items.result.now c.args.streams.now.items c.loop-place.total c.loop-place.place-index c.deref-place-items.ensures.value (omega (arith, c.loop-place-test.false)) c.loop-place.invariant.0
+
+pub offset_bounds-place-items-place-index : goal.offset_bounds-place-items-place-index
+offset_bounds-place-items-place-index g c = omega (arith, c.loop-place-test.true)

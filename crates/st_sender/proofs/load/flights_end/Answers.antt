@@ -1,0 +1,12 @@
+use Rattle.std.proofs.Common.{arith}
+use Rattle.std.proofs.lemmas.Grind.{common_steps}
+use Rattle.st_sender.proofs.load.flights_end.Goals as goal
+
+pub offset_bounds-flights-flight-index : goal.offset_bounds-flights-flight-index
+offset_bounds-flights-flight-index g c = c.loop-flight.auto.flight-index-end
+
+pub bounds-flights-flight-index : goal.bounds-flights-flight-index
+bounds-flights-flight-index g c = c.loop-flight-test.true
+
+pub loop-flight-preserved : goal.loop-flight-preserved
+loop-flight-preserved g c = grind (arith, common_steps)
