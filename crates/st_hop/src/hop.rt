@@ -8,7 +8,8 @@ ghost use Rattle.st_hop.specs.Refusals.{reject_text, t00_text};
 ghost use Rattle.st_hop.specs.Books.{WhyNotRestored, restored};
 ghost use Rattle.st_hop.specs.Hop.{held_of, is_over_limit, last_next, holding, restarted};
 ghost use Rattle.st_hop.specs.Tickets.{IsAmong};
-ghost use Rattle.st_hop.specs.Arriving.{Answers, judged, arrived, sent_on, ticket_for, onward};
+ghost use Rattle.st_hop.specs.Routing.{route_to};
+ghost use Rattle.st_hop.specs.Arriving.{Answers, judged, routed, arrived, sent_on, ticket_for, onward};
 ghost use Rattle.st_hop.specs.Table.{is_table, new_hop, RefusesBadTable};
 ghost use Rattle.st_hop.specs.Lawful.{IsLawful};
 ghost use Rattle.st_hop.specs.Seen.{way_seen, verdict_seen, IsReady, GoesAcross};
@@ -285,6 +286,26 @@ impl<A: Allocator + Copy> HopState<A> {
             || sent > u128::from(MAX_SUM - self.due)
     }
 
+    /// The next hop to which the routes lead a Prepare, or the first rule that stops it there.
+    fn routed(&self, account: usize, prepare: &Prepare<'_>) -> Result<NextHop, Refusal>
+        requires { account < length self.now.accounts }
+        ensures { result ≡ routed self.now account (prepare_seen prepare.now) (route_to self.now.routes (prepare_seen prepare.now).destination) }
+    {
+        let Some(next) = self.routes.find(prepare.destination) else {
+            return Err(Refusal::Unreachable);
+        };
+        if next.account == account {
+            return Err(Refusal::Unreachable);
+        }
+        if self.is_over_limit(account, prepare.amount, next.rate.of(prepare.amount)) {
+            return Err(Refusal::InsufficientLiquidity);
+        }
+        if self.next == u64::MAX {
+            return Err(Refusal::InternalError);
+        }
+        Ok(next)
+    }
+
     /// The next hop of a Prepare, or the first rule that rejects it.
     fn judge(&self, account: usize, prepare: &Prepare<'_>, now: Moment) -> Result<NextHop, Refusal>
         requires { account < length self.now.accounts }
@@ -300,19 +321,7 @@ impl<A: Allocator + Copy> HopState<A> {
         if prepare.expiry <= now.ms() + HOP_TIME {
             return Err(Refusal::InsufficientTimeout);
         }
-        let Some(next) = self.routes.find(prepare.destination) else {
-            return Err(Refusal::Unreachable);
-        };
-        if next.account == account {
-            return Err(Refusal::Unreachable);
-        }
-        if self.is_over_limit(account, prepare.amount, next.rate.of(prepare.amount)) {
-            return Err(Refusal::InsufficientLiquidity);
-        }
-        if self.next == u64::MAX {
-            return Err(Refusal::InternalError);
-        }
-        Ok(next)
+        self.routed(account, prepare)
     }
 
     /// The answer with the hop's own Reject.

@@ -1,4 +1,6 @@
-use Rattle.std.proofs.Common.{◌∙◌, ◌||◌, Some, ap}
+use Rattle.std.proofs.Common.{◌∙◌, ◌||◌, Some, ap, length, arith}
+use Rattle.std.specs.declared.option.Option.{Option}
+use Rattle.std.specs.declared.option.Option.TheVariants.{None}
 use Rattle.std.proofs.lemmas.List.{length-set}
 use Rattle.std.specs.Prelude.{is_some}
 use Rattle.st_streams.specs.Slots.{slot}
@@ -33,6 +35,14 @@ drawn-incoming-requires-clause-within g c = open_within c.self.inside.slots.item
 
 pub drawn-incoming-requires-clause-ready : goal.drawn-incoming-requires-clause-ready
 drawn-incoming-requires-clause-ready g c = ap (λ b. b || is_some (slot c.self.inside.windows.items c.args.k)) (ap (λ (t : Standing). is_open t.state c.args.k) c.self.view_is ∙ c.requires)
+
+pub index_mut-requires : goal.index_mut-requires
+index_mut-requires g c =
+    let none : Option Incoming = None in
+    let l = length-set c.self.inside.slots.items c.args.k none in
+    let e = ap length c.drawn-incoming.ensures.left in
+    let b = open_within c.self.inside.slots.items c.args.k c.self.invariant.0 (ap (λ (t : Standing). is_open t.state c.args.k) c.self.view_is ∙ c.requires) in
+    omega (arith, l, e, b, c.self.invariant, c.drawn-incoming.new.slots.ok)
 
 pub invariant_of-self : goal.invariant_of-self
 invariant_of-self g c = (
