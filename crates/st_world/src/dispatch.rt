@@ -34,9 +34,11 @@ impl<A: Allocator + Copy> Trace<A> {
         ensures nodes { length self.new.nodes ≡ length self.old.nodes }
     {
         if link == self.hops() {
-            return self.arrive_server(links, link, which, put, now);
+            let told = self.arrive_server(links, link, which, put, now)?;
+            return Ok(told);
         }
-        self.arrive_up(links, link, which, put, now)
+        let told = self.arrive_up(links, link, which, put, now)?;
+        Ok(told)
     }
 
     /// A Prepare for the client comes to the far end of its link.
@@ -57,9 +59,11 @@ impl<A: Allocator + Copy> Trace<A> {
         ensures nodes { length self.new.nodes ≡ length self.old.nodes }
     {
         let Some(hop) = link.checked_sub(1) else {
-            return self.arrive_client(links, link, which, put, now);
+            let told = self.arrive_client(links, link, which, put, now)?;
+            return Ok(told);
         };
-        self.arrive_down(links, hop, which, put, now)
+        let told = self.arrive_down(links, hop, which, put, now)?;
+        Ok(told)
     }
 
     /// A Prepare arrives at the far end of its link.
@@ -81,8 +85,14 @@ impl<A: Allocator + Copy> Trace<A> {
             return Ok(Told::Nothing);
         };
         match way {
-            Way::ToServer => self.arrive_for_server(links, link, which, &put, now),
-            Way::ToClient => self.arrive_for_client(links, link, which, &put, now),
+            Way::ToServer => {
+                let told = self.arrive_for_server(links, link, which, &put, now)?;
+                Ok(told)
+            }
+            Way::ToClient => {
+                let told = self.arrive_for_client(links, link, which, &put, now)?;
+                Ok(told)
+            }
         }
     }
 
@@ -109,7 +119,8 @@ impl<A: Allocator + Copy> Trace<A> {
             let told = self.back_end(links, link, way, side, which, put, outcome, now);
             return Ok(told);
         };
-        self.back_up(links, hop, which, put, outcome, now)
+        let told = self.back_up(links, hop, which, put, outcome, now)?;
+        Ok(told)
     }
 
     /// An outcome of a Prepare for the client arrives at whoever put it.
@@ -135,7 +146,8 @@ impl<A: Allocator + Copy> Trace<A> {
             let told = self.back_end(links, link, way, side, which, put, outcome, now);
             return Ok(told);
         }
-        self.back_down(links, link, which, put, outcome, now)
+        let told = self.back_down(links, link, which, put, outcome, now)?;
+        Ok(told)
     }
 
     /// An outcome arrives at whoever put this Prepare.
@@ -160,8 +172,14 @@ impl<A: Allocator + Copy> Trace<A> {
             return Ok(Told::Nothing);
         };
         match way {
-            Way::ToServer => self.back_for_server(links, link, which, &put, outcome, now),
-            Way::ToClient => self.back_for_client(links, link, which, &put, outcome, now),
+            Way::ToServer => {
+                let told = self.back_for_server(links, link, which, &put, outcome, now)?;
+                Ok(told)
+            }
+            Way::ToClient => {
+                let told = self.back_for_client(links, link, which, &put, outcome, now)?;
+                Ok(told)
+            }
         }
     }
 
@@ -186,7 +204,8 @@ impl<A: Allocator + Copy> Trace<A> {
         };
         let put = answer.which();
         let outcome = Outcome::Answered(answer.into_bytes());
-        self.back(links, link, way, which, put, outcome, now)
+        let told = self.back(links, link, way, which, put, outcome, now)?;
+        Ok(told)
     }
 
     /// Whoever put a Prepare learns that no answer will arrive.
@@ -204,6 +223,7 @@ impl<A: Allocator + Copy> Trace<A> {
         ensures same_links { OnErr result (links.new ≡ links.old) }
         ensures nodes { length self.new.nodes ≡ length self.old.nodes }
     {
-        self.back(links, link, way, 0, which, Outcome::Fault, now)
+        let told = self.back(links, link, way, 0, which, Outcome::Fault, now)?;
+        Ok(told)
     }
 }

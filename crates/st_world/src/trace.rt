@@ -370,7 +370,8 @@ impl<A: Allocator + Copy> Trace<A> {
         ensures nodes { length self.new.nodes ≡ length self.old.nodes }
     {
         let node = &mut self.nodes[hop];
-        back_to_hop_up(node, links, hop, put, which, outcome, now)
+        let told = back_to_hop_up(node, links, hop, put, which, outcome, now)?;
+        Ok(told)
     }
 
     /// An outcome of a Prepare for the client arrives at the hop after its link.
@@ -392,6 +393,7 @@ impl<A: Allocator + Copy> Trace<A> {
         ensures nodes { length self.new.nodes ≡ length self.old.nodes }
     {
         let node = &mut self.nodes[link];
-        back_to_hop_down(node, links, link, put, which, outcome, now)
+        let told = back_to_hop_down(node, links, link, put, which, outcome, now)?;
+        Ok(told)
     }
 }

@@ -27,12 +27,16 @@ impl<A: Allocator + Copy> Trace<A> {
     {
         match event {
             Event::OpenStream(side) => Ok(self.open(*side)),
-            Event::Write(side, stream, bytes) => self.write(*side, *stream, bytes),
+            Event::Write(side, stream, bytes) => {
+                let told = self.write(*side, *stream, bytes)?;
+                Ok(told)
+            }
             Event::Read(side, stream, max) => {
                 if *max == 0 {
                     return Ok(Told::Nothing);
                 }
-                self.read(*side, *stream, *max)
+                let told = self.read(*side, *stream, *max)?;
+                Ok(told)
             }
             Event::Close(side, stream) => Ok(self.close(*side, *stream)),
             Event::Abort(side, stream, code) => {
@@ -45,19 +49,23 @@ impl<A: Allocator + Copy> Trace<A> {
             Event::ReceiveMax(side, stream, amount) => Ok(self.raise(*side, *stream, *amount)),
             Event::Send(side, iv, now) => {
                 let _range = now.ms();
-                self.send(links, *side, *iv, *now)
+                let told = self.send(links, *side, *iv, *now)?;
+                Ok(told)
             }
             Event::Arrive(link, way, which, now) => {
                 let _range = now.ms();
-                self.arrive(links, *link, *way, *which, *now)
+                let told = self.arrive(links, *link, *way, *which, *now)?;
+                Ok(told)
             }
             Event::AnswerArrives(link, way, which, now) => {
                 let _range = now.ms();
-                self.answer(links, *link, *way, *which, *now)
+                let told = self.answer(links, *link, *way, *which, *now)?;
+                Ok(told)
             }
             Event::Fault(link, way, which, now) => {
                 let _range = now.ms();
-                self.fault(links, *link, *way, *which, *now)
+                let told = self.fault(links, *link, *way, *which, *now)?;
+                Ok(told)
             }
             Event::Crash(hop) => Ok(self.crash(*hop)),
             Event::Refused => Ok(Told::Nothing),
