@@ -1,3 +1,4 @@
+use Rattle.std.proofs.lemmas.Grind.{common_steps}
 use Rattle.std.proofs.lemmas.Option.{same_Some}
 use Rattle.std.specs.List.{AllByRecursion}
 use Rattle.std.proofs.Common.{◌≡◌, ◌≢◌, subst, ◌+◌, ◌∷◌, [], length, length-append, rules, arith, refl, sym, ap, ◌∙◌}
@@ -39,3 +40,111 @@ rows-preserved g c = (
       (omega (arith, length-append c.rows.names.items (c.in_ok-from_slice.field-0 ∷ []), length-append c.rows.amounts.items (c.in-Some.found ∷ []), c.rows.invariant.4)),
   rw (c.in_ok-push.ensures.items) (distinct_push c.rows.names.items c.in_ok-from_slice.field-0 c.rows.invariant.5 (subst (λ n. AllByRecursion (λ other. other ≢ n) c.rows.names.items) (sym c.in_ok-from_slice.ensures) (rw (c.as_slice.ensures.value) at (c.place_of.ensures.missing c.in-None.is)))),
 )
+
+pub seek-requires-clause-table : goal.seek-requires-clause-table
+seek-requires-clause-table g c = grind (arith, common_steps)
+
+pub seek-requires-clause-frozen : goal.seek-requires-clause-frozen
+seek-requires-clause-frozen g c = grind (arith, common_steps)
+
+pub returns-in_err-seek-clause-found : goal.returns-in_err-seek-clause-found
+returns-in_err-seek-clause-found g c = grind (arith, common_steps)
+
+pub returns-in_err-seek-clause-named : goal.returns-in_err-seek-clause-named
+returns-in_err-seek-clause-named g c = grind (arith, common_steps)
+
+pub returns-in_err-seek-clause-distinct : goal.returns-in_err-seek-clause-distinct
+returns-in_err-seek-clause-distinct g c = grind (arith, common_steps)
+
+pub returns-in_err-seek-clause-same : goal.returns-in_err-seek-clause-same
+returns-in_err-seek-clause-same g c = grind (arith, common_steps)
+
+pub returns-in_err-seek-clause-quiet : goal.returns-in_err-seek-clause-quiet
+returns-in_err-seek-clause-quiet g c = grind (arith, common_steps)
+
+pub next-requires : goal.next-requires
+next-requires g c = grind (arith, common_steps)
+
+pub returns-in_err-next-clause-found : goal.returns-in_err-next-clause-found
+returns-in_err-next-clause-found g c = grind (arith, common_steps)
+
+pub returns-in_err-next-clause-named : goal.returns-in_err-next-clause-named
+returns-in_err-next-clause-named g c = grind (arith, common_steps)
+
+pub returns-in_err-next-clause-distinct : goal.returns-in_err-next-clause-distinct
+returns-in_err-next-clause-distinct g c = grind (arith, common_steps)
+
+pub returns-in_err-next-clause-same : goal.returns-in_err-next-clause-same
+returns-in_err-next-clause-same g c = grind (arith, common_steps)
+
+pub returns-in_err-next-clause-quiet : goal.returns-in_err-next-clause-quiet
+returns-in_err-next-clause-quiet g c = grind (arith, common_steps)
+
+pub returns-then-not-branch-clause-found : goal.returns-then-not-branch-clause-found
+returns-then-not-branch-clause-found g c = grind (arith, common_steps)
+
+pub returns-then-not-branch-clause-named : goal.returns-then-not-branch-clause-named
+returns-then-not-branch-clause-named g c = grind (arith, common_steps)
+
+pub returns-then-not-branch-clause-distinct : goal.returns-then-not-branch-clause-distinct
+returns-then-not-branch-clause-distinct g c = grind (arith, common_steps)
+
+pub returns-then-not-branch-clause-same : goal.returns-then-not-branch-clause-same
+returns-then-not-branch-clause-same g c = grind (arith, common_steps)
+
+pub returns-then-not-branch-clause-quiet : goal.returns-then-not-branch-clause-quiet
+returns-then-not-branch-clause-quiet g c = grind (arith, common_steps)
+
+pub returns-in_default-clause-quiet : goal.returns-in_default-clause-quiet
+returns-in_default-clause-quiet g c = grind (arith, common_steps)
+
+pub returns-in-Some-place_of-clause-quiet : goal.returns-in-Some-place_of-clause-quiet
+returns-in-Some-place_of-clause-quiet g c = grind (arith, common_steps)
+
+pub returns-in_err-from_slice-clause-found : goal.returns-in_err-from_slice-clause-found
+returns-in_err-from_slice-clause-found g c = grind (arith, common_steps)
+
+pub returns-in_err-from_slice-clause-named : goal.returns-in_err-from_slice-clause-named
+returns-in_err-from_slice-clause-named g c = grind (arith, common_steps)
+
+pub returns-in_err-from_slice-clause-distinct : goal.returns-in_err-from_slice-clause-distinct
+returns-in_err-from_slice-clause-distinct g c = grind (arith, common_steps)
+
+pub returns-in_err-from_slice-clause-same : goal.returns-in_err-from_slice-clause-same
+returns-in_err-from_slice-clause-same g c = grind (arith, common_steps)
+
+pub returns-in_err-from_slice-clause-quiet : goal.returns-in_err-from_slice-clause-quiet
+returns-in_err-from_slice-clause-quiet g c = grind (arith, common_steps)
+
+pub returns-in_err-push-clause-found : goal.returns-in_err-push-clause-found
+returns-in_err-push-clause-found g c = grind (arith, common_steps)
+
+pub returns-in_err-push-clause-named : goal.returns-in_err-push-clause-named
+returns-in_err-push-clause-named g c = grind (arith, common_steps)
+
+pub returns-in_err-push-clause-distinct : goal.returns-in_err-push-clause-distinct
+returns-in_err-push-clause-distinct g c = grind (arith, common_steps)
+
+pub returns-in_err-push-clause-same : goal.returns-in_err-push-clause-same
+returns-in_err-push-clause-same g c = grind (arith, common_steps)
+
+pub returns-in_err-push-clause-quiet : goal.returns-in_err-push-clause-quiet
+returns-in_err-push-clause-quiet g c = grind (arith, common_steps)
+
+pub returns-in_err-push-2-clause-found : goal.returns-in_err-push-2-clause-found
+returns-in_err-push-2-clause-found g c = grind (arith, common_steps)
+
+pub returns-in_err-push-2-clause-named : goal.returns-in_err-push-2-clause-named
+returns-in_err-push-2-clause-named g c = grind (arith, common_steps)
+
+pub returns-in_err-push-2-clause-distinct : goal.returns-in_err-push-2-clause-distinct
+returns-in_err-push-2-clause-distinct g c = grind (arith, common_steps)
+
+pub returns-in_err-push-2-clause-same : goal.returns-in_err-push-2-clause-same
+returns-in_err-push-2-clause-same g c = grind (arith, common_steps)
+
+pub returns-in_err-push-2-clause-quiet : goal.returns-in_err-push-2-clause-quiet
+returns-in_err-push-2-clause-quiet g c = grind (arith, common_steps)
+
+pub returns-clause-quiet : goal.returns-clause-quiet
+returns-clause-quiet g c = grind (arith, common_steps)

@@ -1,4 +1,5 @@
-use Rattle.std.proofs.Common.{◌≡◌, ◌∙◌, ℕ, List, [], ◌∷◌, ◌++◌, ap, sym, subst, inl, inr, Ok, Err}
+use Rattle.std.proofs.lemmas.Grind.{common_steps}
+use Rattle.std.proofs.Common.{◌≡◌, ◌∙◌, ℕ, List, [], ◌∷◌, ◌++◌, ap, sym, subst, inl, inr, Ok, Err, arith}
 use mathlib.Core.List.{IsPrefix}
 use Rattle.st_queues.specs.WriteEnds.{taken, known}
 use Rattle.st_queues.specs.declared.items.Item.{Item}
@@ -71,3 +72,57 @@ returns-in_default-clause-stops g c =
     let first = subst (λ (x : Item _). IsPrefix (x ∷ []) (known c.look.new.self)) c.in-Chunk.is c.first.ensures in
     let answer = refused_still c.args.core.now b c.args.stream c.deref.result.now why c.in_default.not-NoMemory c.in-Err.ensures.unchanged c.in-Err.ensures.answers in
     inr (inr (item.Chunk v, first, (why, subst (λ (bs : List ℕ). write b c.args.stream bs ≡ (Err why, b)) c.deref.ensures.value answer)))
+
+pub returns-then-over-clause-same : goal.returns-then-over-clause-same
+returns-then-over-clause-same g c = grind (arith, common_steps)
+
+pub returns-then-over-clause-over : goal.returns-then-over-clause-over
+returns-then-over-clause-over g c = grind (arith, common_steps)
+
+pub returns-then-over-clause-after : goal.returns-then-over-clause-after
+returns-then-over-clause-after g c = grind (arith, common_steps)
+
+pub returns-then-over-clause-grows : goal.returns-then-over-clause-grows
+returns-then-over-clause-grows g c = grind (arith, common_steps)
+
+pub returns-then-over-clause-stops : goal.returns-then-over-clause-stops
+returns-then-over-clause-stops g c = grind (arith, common_steps)
+
+pub first-requires : goal.first-requires
+first-requires g c = grind (arith, common_steps)
+
+pub drop_first-requires : goal.drop_first-requires
+drop_first-requires g c = grind (arith, common_steps)
+
+pub drop_first-requires-in-Ok-close_last : goal.drop_first-requires-in-Ok-close_last
+drop_first-requires-in-Ok-close_last g c = grind (arith, common_steps)
+
+pub returns-in-Ok-clause-same : goal.returns-in-Ok-clause-same
+returns-in-Ok-clause-same g c = grind (arith, common_steps)
+
+pub returns-in-NoMemory-clause-same : goal.returns-in-NoMemory-clause-same
+returns-in-NoMemory-clause-same g c = grind (arith, common_steps)
+
+pub returns-in-NoMemory-clause-over : goal.returns-in-NoMemory-clause-over
+returns-in-NoMemory-clause-over g c = grind (arith, common_steps)
+
+pub returns-in-NoMemory-clause-after : goal.returns-in-NoMemory-clause-after
+returns-in-NoMemory-clause-after g c = grind (arith, common_steps)
+
+pub returns-in-Ok-close_last-clause-same : goal.returns-in-Ok-close_last-clause-same
+returns-in-Ok-close_last-clause-same g c = grind (arith, common_steps)
+
+pub returns-in-Ok-close_last-clause-after : goal.returns-in-Ok-close_last-clause-after
+returns-in-Ok-close_last-clause-after g c = grind (arith, common_steps)
+
+pub returns-in-Err-close_last-clause-same : goal.returns-in-Err-close_last-clause-same
+returns-in-Err-close_last-clause-same g c = grind (arith, common_steps)
+
+pub returns-in-Err-close_last-clause-over : goal.returns-in-Err-close_last-clause-over
+returns-in-Err-close_last-clause-over g c = grind (arith, common_steps)
+
+pub returns-in-Err-close_last-clause-after : goal.returns-in-Err-close_last-clause-after
+returns-in-Err-close_last-clause-after g c = grind (arith, common_steps)
+
+pub returns-in-Err-close_last-clause-stops : goal.returns-in-Err-close_last-clause-stops
+returns-in-Err-close_last-clause-stops g c = grind (arith, common_steps)

@@ -1,3 +1,4 @@
+use Rattle.std.proofs.lemmas.Grind.{common_steps}
 use Rattle.std.proofs.Common.{◌≡◌, ◌+◌, ◌*◌, ◌-◌, ◌<◌, ℕ, false, List, map, subst, arith}
 use Rattle.st_hub.specs.Trying.{Beside}
 use Rattle.st_hub.specs.Flow.{Inlet, inlet_at, writer_out}
@@ -67,3 +68,24 @@ further_writer-requires-clause-held g c = c.in-Some.ensures.found.2
 
 pub invariant_of-self : goal.invariant_of-self
 invariant_of-self g c = c.self.invariant
+
+pub returns-then-not-is_stream-clause-refused : goal.returns-then-not-is_stream-clause-refused
+returns-then-not-is_stream-clause-refused g c = grind (arith, common_steps)
+
+pub first_unused-requires : goal.first_unused-requires
+first_unused-requires g c = grind (arith, common_steps)
+
+pub invariant_of-self-in_default : goal.invariant_of-self-in_default
+invariant_of-self-in_default g c = grind (arith, common_steps)
+
+pub is_too_late-requires : goal.is_too_late-requires
+is_too_late-requires g c = grind (arith, common_steps)
+
+pub invariant_of-self-then-is_too_late : goal.invariant_of-self-then-is_too_late
+invariant_of-self-then-is_too_late g c = grind (arith, common_steps)
+
+pub overflow_mul-place : goal.overflow_mul-place
+overflow_mul-place g c = grind (arith, common_steps)
+
+pub overflow_add-place : goal.overflow_add-place
+overflow_add-place g c = grind (arith, common_steps)

@@ -1,3 +1,4 @@
+use Rattle.std.proofs.lemmas.Grind.{common_steps}
 use Rattle.std.proofs.Common.{◌≡◌, ◌≢◌, ◌+◌, ◌-◌, ℕ, subst, sym, arith, None, Ok}
 use Rattle.st_sender.specs.Sending.{outgoing_at}
 use Rattle.st_end.specs.Calls as calls
@@ -76,3 +77,12 @@ returns-clause-answers g c =
 pub invariant_of-self : goal.invariant_of-self
 invariant_of-self g c =
     subst (λ k. IsSound g.N.HubName.write_ring g.N.HubName.read_ring k c.self.inside.writes.items c.self.inside.reads.items) (sym c.in_err-stream.ensures.unchanged) c.self.invariant
+
+pub returns-in_err-stream-clause-answers : goal.returns-in_err-stream-clause-answers
+returns-in_err-stream-clause-answers g c = grind (arith, common_steps)
+
+pub returns-in_err-stream-clause-handed : goal.returns-in_err-stream-clause-handed
+returns-in_err-stream-clause-handed g c = grind (arith, common_steps)
+
+pub returns-in_err-stream-clause-unchanged : goal.returns-in_err-stream-clause-unchanged
+returns-in_err-stream-clause-unchanged g c = grind (arith, common_steps)
