@@ -49,7 +49,7 @@ enum Entry {
 }
 
 /// How many Prepares of an account were answered, by how they ended. Each count stops at `u64::MAX`.
-#[derive(Clone, Copy)]
+#[derive(Clone, Copy, PartialEq, Eq)]
 pub struct AccountCounts {
     /// Those that were fulfilled.
     pub fulfilled: u64,
@@ -67,7 +67,7 @@ pub struct AccountCounts {
 }
 
 /// How many Prepares of an account were answered with a Reject of one code.
-#[derive(Clone, Copy)]
+#[derive(Clone, Copy, PartialEq, Eq)]
 pub struct CodeCount {
     /// The account's place.
     pub account: usize,

@@ -36,7 +36,7 @@ pub enum WholeRule {
 }
 
 /// The first line of a table that breaks a rule of the whole table.
-#[derive(Clone, Copy)]
+#[derive(Clone, Copy, PartialEq, Eq)]
 pub struct WholeFault {
     /// The number of the line, from 1.
     pub line: usize,

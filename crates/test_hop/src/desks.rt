@@ -213,7 +213,7 @@ pub(crate) fn gathered<C: Ledger, D: Ledger, A: Allocator + Copy>(
 }
 
 /// What books do.
-#[derive(Clone, Copy)]
+#[derive(Clone, Copy, Debug, PartialEq, Eq)]
 enum Way {
     Store,
     Refuse,

@@ -13,7 +13,7 @@ use std::test::Fail;
 use test_refusing::Refusing;
 
 /// How a Prepare was answered.
-#[derive(Clone, Copy)]
+#[derive(Clone, Copy, Debug, PartialEq, Eq)]
 enum Told {
     Fulfilled,
     NoAnswerCame,

@@ -49,7 +49,7 @@ const BOOKING: Booking = Booking {
 };
 
 /// How many deposits were stored, and of how many nobody knows it.
-#[derive(Clone, Copy)]
+#[derive(Clone, Copy, Debug, PartialEq, Eq)]
 struct Fates {
     stored: u64,
     unknown: u64,

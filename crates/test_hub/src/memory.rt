@@ -109,7 +109,7 @@ pub(crate) fn begin<N: HubName<A>, A: Allocator + Copy>(
 }
 
 /// The calls that may allocate.
-#[derive(Clone, Copy)]
+#[derive(Clone, Copy, Debug, PartialEq, Eq)]
 enum Call {
     OpenStream,
     Pump,

@@ -20,7 +20,7 @@ use std::thread::Threads;
 use std::time::{Clock, Duration};
 
 /// What is tried by threads that share a client's hub and a server's.
-#[derive(Clone, Copy)]
+#[derive(Clone, Copy, Debug, PartialEq, Eq)]
 pub(crate) enum Scene {
     TwoWorkers,
     TakesPackets,

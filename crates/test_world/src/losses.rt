@@ -13,7 +13,7 @@ use std::process::Abort;
 const SIZES: [usize; 6] = [0, 1, 16_000, 16_001, 33_000, 50_000];
 
 /// What was seen of a run.
-#[derive(Clone, Copy)]
+#[derive(Clone, Copy, Debug, PartialEq, Eq)]
 pub(crate) struct Seen {
     pub(crate) sends: u64,
     pub(crate) losses: u64,

@@ -15,7 +15,7 @@ pub(crate) const PACKET_LIMIT: u64 = 100;
 const LINKS: usize = 4;
 
 /// What an event led to.
-#[derive(Clone, Copy)]
+#[derive(Clone, Copy, Debug, PartialEq, Eq)]
 pub(crate) enum Met {
     /// An end sent a Prepare.
     Sent,

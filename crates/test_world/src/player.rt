@@ -12,7 +12,7 @@ use std::process::Abort;
 const IV: [u8; 12] = [7; 12];
 
 /// What the ends report, how many Prepares were answered, and all claims and dues of the hops.
-#[derive(Clone, Copy)]
+#[derive(Clone, Copy, Debug, PartialEq, Eq)]
 struct Standing {
     client: Totals,
     server: Totals,
