@@ -1,4 +1,5 @@
-use Rattle.std.proofs.Common.{ap, sym, subst, ◌∙◌, rules}
+use Rattle.std.proofs.lemmas.Grind.{common_steps}
+use Rattle.std.proofs.Common.{ap, sym, subst, ◌∙◌, rules, arith}
 use Rattle.std.specs.Arc.{arc_value}
 use Rattle.std.specs.FinMap as map
 use Rattle.st_end.specs.Unsealed.{Launched, launched}
@@ -34,3 +35,60 @@ returns-clause-booked g c =
     c.in_ok-insert.ensures.kept
     ∙ ap (λ n. map.insert c.args.conditions.now n c.args.iv) (c.sequence.ensures ∙ sym c.sequence-2.ensures)
     ∙ ap (λ (x : Launched). map.insert c.args.conditions.now x.flight.sequence c.args.iv) (sym c.new.ensures)
+
+pub of-requires-clause-peer : goal.of-requires-clause-peer
+of-requires-clause-peer g c = grind (arith, common_steps)
+
+pub of-requires-clause-load : goal.of-requires-clause-load
+of-requires-clause-load g c = grind (arith, common_steps)
+
+pub returns-in_err-plain-clause-only_memory : goal.returns-in_err-plain-clause-only_memory
+returns-in_err-plain-clause-only_memory g c = grind (arith, common_steps)
+
+pub returns-in_err-plain-clause-spelled : goal.returns-in_err-plain-clause-spelled
+returns-in_err-plain-clause-spelled g c = grind (arith, common_steps)
+
+pub returns-in_err-plain-clause-amount : goal.returns-in_err-plain-clause-amount
+returns-in_err-plain-clause-amount g c = grind (arith, common_steps)
+
+pub returns-in_err-plain-clause-booked : goal.returns-in_err-plain-clause-booked
+returns-in_err-plain-clause-booked g c = grind (arith, common_steps)
+
+pub returns-in_err-plain-clause-unchanged : goal.returns-in_err-plain-clause-unchanged
+returns-in_err-plain-clause-unchanged g c = grind (arith, common_steps)
+
+pub returns-in_err-keys-clause-only_memory : goal.returns-in_err-keys-clause-only_memory
+returns-in_err-keys-clause-only_memory g c = grind (arith, common_steps)
+
+pub returns-in_err-keys-clause-spelled : goal.returns-in_err-keys-clause-spelled
+returns-in_err-keys-clause-spelled g c = grind (arith, common_steps)
+
+pub returns-in_err-keys-clause-amount : goal.returns-in_err-keys-clause-amount
+returns-in_err-keys-clause-amount g c = grind (arith, common_steps)
+
+pub returns-in_err-keys-clause-booked : goal.returns-in_err-keys-clause-booked
+returns-in_err-keys-clause-booked g c = grind (arith, common_steps)
+
+pub returns-in_err-keys-clause-unchanged : goal.returns-in_err-keys-clause-unchanged
+returns-in_err-keys-clause-unchanged g c = grind (arith, common_steps)
+
+pub slice_bounds-insert-end : goal.slice_bounds-insert-end
+slice_bounds-insert-end g c = grind (arith, common_steps)
+
+pub insert-requires : goal.insert-requires
+insert-requires g c = grind (arith, common_steps)
+
+pub returns-in_err-insert-clause-only_memory : goal.returns-in_err-insert-clause-only_memory
+returns-in_err-insert-clause-only_memory g c = grind (arith, common_steps)
+
+pub returns-in_err-insert-clause-spelled : goal.returns-in_err-insert-clause-spelled
+returns-in_err-insert-clause-spelled g c = grind (arith, common_steps)
+
+pub returns-in_err-insert-clause-amount : goal.returns-in_err-insert-clause-amount
+returns-in_err-insert-clause-amount g c = grind (arith, common_steps)
+
+pub returns-in_err-insert-clause-booked : goal.returns-in_err-insert-clause-booked
+returns-in_err-insert-clause-booked g c = grind (arith, common_steps)
+
+pub returns-in_err-insert-clause-unchanged : goal.returns-in_err-insert-clause-unchanged
+returns-in_err-insert-clause-unchanged g c = grind (arith, common_steps)
