@@ -12,3 +12,24 @@ invariant_of-party-2 g c = same_kept c.party.inside.state c.write_slot.new.state
 pub returns-clause-met : goal.returns-clause-met
 returns-clause-met g c =
     at_slot (λ e. calls.write e c.args.stream c.args.bytes.now) (written c.args.bytes.now) _ _ _ _ _ _ _ _ _ _ _ c.party.view_is c.ledgers.view_is (grind (arith, common_steps)) (grind (arith, common_steps)) c.index_mut-slot.ensures.value c.in_ok-told.ensures.met
+
+pub index_mut-slot-requires : goal.index_mut-slot-requires
+index_mut-slot-requires g c = grind (arith, common_steps)
+
+pub invariant_of-party : goal.invariant_of-party
+invariant_of-party g c = grind (arith, common_steps)
+
+pub invariant_of-ledgers : goal.invariant_of-ledgers
+invariant_of-ledgers g c = grind (arith, common_steps)
+
+pub returns-in_err-told-clause-met : goal.returns-in_err-told-clause-met
+returns-in_err-told-clause-met g c = grind (arith, common_steps)
+
+pub returns-in_err-told-clause-same_party : goal.returns-in_err-told-clause-same_party
+returns-in_err-told-clause-same_party g c = grind (arith, common_steps)
+
+pub returns-in_err-told-clause-same_ledgers : goal.returns-in_err-told-clause-same_ledgers
+returns-in_err-told-clause-same_ledgers g c = grind (arith, common_steps)
+
+pub invariant_of-ledgers-2 : goal.invariant_of-ledgers-2
+invariant_of-ledgers-2 g c = grind (arith, common_steps)
