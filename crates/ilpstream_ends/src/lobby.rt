@@ -294,7 +294,7 @@ where
         }
     }
 
-    /// Closes the oldest connection, if there are as many as may be read at once.
+    /// Closes the oldest connection, if no further one may be read beside those that are open.
     fn make_room(&mut self)
         ensures left { self.new.left ≡ self.old.left }
         ensures fewer { vec_len self.new.guests ≤ vec_len self.old.guests }

@@ -3,7 +3,7 @@ use Rattle.std.proofs.Common.{◌≡◌, ℕ, ◌<◌, ◌≤◌, ◌^◌, min, 
 use Rattle.st_sender.specs.declared.bounds.Bounds.{Bounds}
 use Rattle.st_sender.specs.Allowed.{less}
 
--- a place of as many as there are
+-- a place below the length of a list, by the number that it has
 pub within : (n k l : ℕ) → l ≡ n → k < n → k < l
 within n k l e h = omega (arith, e, h)
 
