@@ -294,7 +294,7 @@ where
         }
     }
 
-    /// Closes the oldest connection, if no further one may be read beside those that are open.
+    /// Closes the oldest connection, if no further one may be read at the same time.
     fn make_room(&mut self)
         ensures left { self.new.left ≡ self.old.left }
         ensures fewer { vec_len self.new.guests ≤ vec_len self.old.guests }
