@@ -1,3 +1,4 @@
+use Rattle.std.proofs.lemmas.Grind.{common_steps}
 use Rattle.std.proofs.Common.{◌≡◌, ◌+◌, ℕ, Bool, subst, sym, refl, ◌∙◌, arith, true, false, inl}
 use Rattle.st_end.specs.Calls.{has_stream}
 use Rattle.st_hub.specs.Trying.{Beside}
@@ -53,3 +54,21 @@ returns-clause-taken g c =
         };
       },
     )
+
+pub first_left-requires : goal.first_left-requires
+first_left-requires g c = grind (arith, common_steps)
+
+pub invariant_of-self : goal.invariant_of-self
+invariant_of-self g c = grind (arith, common_steps)
+
+pub returns-in_err-place-clause-taken : goal.returns-in_err-place-clause-taken
+returns-in_err-place-clause-taken g c = grind (arith, common_steps)
+
+pub returns-in_err-place-clause-none : goal.returns-in_err-place-clause-none
+returns-in_err-place-clause-none g c = grind (arith, common_steps)
+
+pub ends-writer-requires-clause-lanes : goal.ends-writer-requires-clause-lanes
+ends-writer-requires-clause-lanes g c = grind (arith, common_steps)
+
+pub overflow_add-place : goal.overflow_add-place
+overflow_add-place g c = grind (arith, common_steps)
