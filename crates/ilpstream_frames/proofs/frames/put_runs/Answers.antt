@@ -1,3 +1,4 @@
+use Rattle.std.proofs.lemmas.Grind.{common_steps}
 use Rattle.std.proofs.Common.{◌<◌, ◌≤◌, [], length, refl, ap, ◌∙◌, arith}
 use Rattle.std.proofs.KnownBytes.{Appends-nil}
 use Rattle.std.proofs.lemmas.List.{length-set}
@@ -42,3 +43,45 @@ returns-clause-part g c =
     let all : length c.loop-place.streams ≤ c.loop-place.place = omega (arith, c.loop-place-test.false, c.count-place-end.ensures.count, c.loop-place.invariant.count) in
     writes_whole (g.W.Write.contents (device_of c.args.writer.now)) (g.W.Write.contents (device_of c.loop-place.writer)) (runs_text c.args.streams)
     (writes_all (g.W.Write.contents (device_of c.args.writer.now)) (g.W.Write.contents (device_of c.loop-place.writer)) (runs_text c.args.streams) c.loop-place.place c.loop-place.streams all c.loop-place.invariant.written)
+
+pub same-streams : goal.same-streams
+same-streams g c = grind (arith, common_steps)
+
+pub put_run-requires : goal.put_run-requires
+put_run-requires g c = grind (arith, common_steps)
+
+pub returns-in_err-put_run-clause-no_input : goal.returns-in_err-put_run-clause-no_input
+returns-in_err-put_run-clause-no_input g c = grind (arith, common_steps)
+
+pub returns-in_err-put_run-clause-faults : goal.returns-in_err-put_run-clause-faults
+returns-in_err-put_run-clause-faults g c = grind (arith, common_steps)
+
+pub returns-in_err-put_run-clause-flushed : goal.returns-in_err-put_run-clause-flushed
+returns-in_err-put_run-clause-flushed g c = grind (arith, common_steps)
+
+pub returns-in_err-put_run-clause-out_of_turns : goal.returns-in_err-put_run-clause-out_of_turns
+returns-in_err-put_run-clause-out_of_turns g c = grind (arith, common_steps)
+
+pub returns-in_err-put_run-clause-turns : goal.returns-in_err-put_run-clause-turns
+returns-in_err-put_run-clause-turns g c = grind (arith, common_steps)
+
+pub returns-in_err-put_run-clause-whole : goal.returns-in_err-put_run-clause-whole
+returns-in_err-put_run-clause-whole g c = grind (arith, common_steps)
+
+pub same-streams-in-loop-place : goal.same-streams-in-loop-place
+same-streams-in-loop-place g c = grind (arith, common_steps)
+
+pub returns-clause-no_input : goal.returns-clause-no_input
+returns-clause-no_input g c = grind (arith, common_steps)
+
+pub returns-clause-faults : goal.returns-clause-faults
+returns-clause-faults g c = grind (arith, common_steps)
+
+pub returns-clause-flushed : goal.returns-clause-flushed
+returns-clause-flushed g c = grind (arith, common_steps)
+
+pub returns-clause-turns : goal.returns-clause-turns
+returns-clause-turns g c = grind (arith, common_steps)
+
+pub returns-clause-whole : goal.returns-clause-whole
+returns-clause-whole g c = grind (arith, common_steps)

@@ -1,4 +1,5 @@
-use Rattle.std.proofs.Common.{◌≡◌, List, [], ◌++◌, ℕ, take, subst, ap, refl, ◌∙◌}
+use Rattle.std.proofs.lemmas.Grind.{common_steps}
+use Rattle.std.proofs.Common.{◌≡◌, List, [], ◌++◌, ℕ, take, subst, ap, refl, ◌∙◌, arith}
 use Rattle.std.specs.Io.KnownBytes.{Appends}
 use Rattle.ilpstream_output.specs.Endings.{WritesPart}
 use Rattle.ilpstream_frames.proofs.Progressing.{begins, begins_at_end, begins_in_piece, covers_ended, covers_piece, covers_same, on_err}
@@ -63,3 +64,144 @@ returns-in_err-fed-in-Bytes-clause-part g c = λ input before covers.
 pub returns-in-Again-clause-covers : goal.returns-in-Again-clause-covers
 returns-in-Again-clause-covers g c = λ input before covers.
     covers_same input (g.R.Read.remaining (device_of c.args.reader.now)) (g.R.Read.remaining (device_of c.read_turn.new.reader)) before (g.W.Write.contents (device_of c.args.writer.now)) c.args.lines.now covers c.in-Again.ensures.0
+
+pub same-lines : goal.same-lines
+same-lines g c = grind (arith, common_steps)
+
+pub returns-in-Again-clause-bounded : goal.returns-in-Again-clause-bounded
+returns-in-Again-clause-bounded g c = grind (arith, common_steps)
+
+pub returns-in-Again-clause-reader_faults : goal.returns-in-Again-clause-reader_faults
+returns-in-Again-clause-reader_faults g c = grind (arith, common_steps)
+
+pub returns-in-Again-clause-writer_faults : goal.returns-in-Again-clause-writer_faults
+returns-in-Again-clause-writer_faults g c = grind (arith, common_steps)
+
+pub returns-in-Again-clause-flushed : goal.returns-in-Again-clause-flushed
+returns-in-Again-clause-flushed g c = grind (arith, common_steps)
+
+pub returns-in-Again-clause-reads : goal.returns-in-Again-clause-reads
+returns-in-Again-clause-reads g c = grind (arith, common_steps)
+
+pub returns-in-Again-clause-turns : goal.returns-in-Again-clause-turns
+returns-in-Again-clause-turns g c = grind (arith, common_steps)
+
+pub same-lines-in-Fault : goal.same-lines-in-Fault
+same-lines-in-Fault g c = grind (arith, common_steps)
+
+pub returns-in-Fault-clause-reader_faults : goal.returns-in-Fault-clause-reader_faults
+returns-in-Fault-clause-reader_faults g c = grind (arith, common_steps)
+
+pub returns-in-Fault-clause-writer_faults : goal.returns-in-Fault-clause-writer_faults
+returns-in-Fault-clause-writer_faults g c = grind (arith, common_steps)
+
+pub returns-in-Fault-clause-out_of_turns : goal.returns-in-Fault-clause-out_of_turns
+returns-in-Fault-clause-out_of_turns g c = grind (arith, common_steps)
+
+pub returns-in-Fault-clause-reads : goal.returns-in-Fault-clause-reads
+returns-in-Fault-clause-reads g c = grind (arith, common_steps)
+
+pub returns-in-Fault-clause-turns : goal.returns-in-Fault-clause-turns
+returns-in-Fault-clause-turns g c = grind (arith, common_steps)
+
+pub same-lines-in-End : goal.same-lines-in-End
+same-lines-in-End g c = grind (arith, common_steps)
+
+pub finish-finished-requires : goal.finish-finished-requires
+finish-finished-requires g c = grind (arith, common_steps)
+
+pub returns-in_err-put-in-End-clause-covers : goal.returns-in_err-put-in-End-clause-covers
+returns-in_err-put-in-End-clause-covers g c = grind (arith, common_steps)
+
+pub returns-in_err-put-in-End-clause-bounded : goal.returns-in_err-put-in-End-clause-bounded
+returns-in_err-put-in-End-clause-bounded g c = grind (arith, common_steps)
+
+pub returns-in_err-put-in-End-clause-flushed : goal.returns-in_err-put-in-End-clause-flushed
+returns-in_err-put-in-End-clause-flushed g c = grind (arith, common_steps)
+
+pub returns-in_err-put-in-End-clause-reads : goal.returns-in_err-put-in-End-clause-reads
+returns-in_err-put-in-End-clause-reads g c = grind (arith, common_steps)
+
+pub returns-in_err-put-in-End-clause-turns : goal.returns-in_err-put-in-End-clause-turns
+returns-in_err-put-in-End-clause-turns g c = grind (arith, common_steps)
+
+pub returns-in_err-finished-in-End-clause-reads : goal.returns-in_err-finished-in-End-clause-reads
+returns-in_err-finished-in-End-clause-reads g c = grind (arith, common_steps)
+
+pub returns-in_err-finished-in-End-clause-turns : goal.returns-in_err-finished-in-End-clause-turns
+returns-in_err-finished-in-End-clause-turns g c = grind (arith, common_steps)
+
+pub returns-in-End-clause-bounded : goal.returns-in-End-clause-bounded
+returns-in-End-clause-bounded g c = grind (arith, common_steps)
+
+pub returns-in-End-clause-reader_faults : goal.returns-in-End-clause-reader_faults
+returns-in-End-clause-reader_faults g c = grind (arith, common_steps)
+
+pub returns-in-End-clause-writer_faults : goal.returns-in-End-clause-writer_faults
+returns-in-End-clause-writer_faults g c = grind (arith, common_steps)
+
+pub returns-in-End-clause-flushed : goal.returns-in-End-clause-flushed
+returns-in-End-clause-flushed g c = grind (arith, common_steps)
+
+pub returns-in-End-clause-reads : goal.returns-in-End-clause-reads
+returns-in-End-clause-reads g c = grind (arith, common_steps)
+
+pub returns-in-End-clause-turns : goal.returns-in-End-clause-turns
+returns-in-End-clause-turns g c = grind (arith, common_steps)
+
+pub same-lines-in-Bytes : goal.same-lines-in-Bytes
+same-lines-in-Bytes g c = grind (arith, common_steps)
+
+pub shared_ref_as_front-feed : goal.shared_ref_as_front-feed
+shared_ref_as_front-feed g c = grind (arith, common_steps)
+
+pub feed-fed-requires : goal.feed-fed-requires
+feed-fed-requires g c = grind (arith, common_steps)
+
+pub returns-in_err-put-in-Bytes-clause-covers : goal.returns-in_err-put-in-Bytes-clause-covers
+returns-in_err-put-in-Bytes-clause-covers g c = grind (arith, common_steps)
+
+pub returns-in_err-put-in-Bytes-clause-bounded : goal.returns-in_err-put-in-Bytes-clause-bounded
+returns-in_err-put-in-Bytes-clause-bounded g c = grind (arith, common_steps)
+
+pub returns-in_err-put-in-Bytes-clause-flushed : goal.returns-in_err-put-in-Bytes-clause-flushed
+returns-in_err-put-in-Bytes-clause-flushed g c = grind (arith, common_steps)
+
+pub returns-in_err-put-in-Bytes-clause-reads : goal.returns-in_err-put-in-Bytes-clause-reads
+returns-in_err-put-in-Bytes-clause-reads g c = grind (arith, common_steps)
+
+pub returns-in_err-put-in-Bytes-clause-turns : goal.returns-in_err-put-in-Bytes-clause-turns
+returns-in_err-put-in-Bytes-clause-turns g c = grind (arith, common_steps)
+
+pub returns-in_err-fed-in-Bytes-clause-covers : goal.returns-in_err-fed-in-Bytes-clause-covers
+returns-in_err-fed-in-Bytes-clause-covers g c = grind (arith, common_steps)
+
+pub returns-in_err-fed-in-Bytes-clause-bounded : goal.returns-in_err-fed-in-Bytes-clause-bounded
+returns-in_err-fed-in-Bytes-clause-bounded g c = grind (arith, common_steps)
+
+pub returns-in_err-fed-in-Bytes-clause-flushed : goal.returns-in_err-fed-in-Bytes-clause-flushed
+returns-in_err-fed-in-Bytes-clause-flushed g c = grind (arith, common_steps)
+
+pub returns-in_err-fed-in-Bytes-clause-reads : goal.returns-in_err-fed-in-Bytes-clause-reads
+returns-in_err-fed-in-Bytes-clause-reads g c = grind (arith, common_steps)
+
+pub returns-in_err-fed-in-Bytes-clause-turns : goal.returns-in_err-fed-in-Bytes-clause-turns
+returns-in_err-fed-in-Bytes-clause-turns g c = grind (arith, common_steps)
+
+pub returns-clause-bounded : goal.returns-clause-bounded
+returns-clause-bounded g c = grind (arith, common_steps)
+
+pub returns-clause-reader_faults : goal.returns-clause-reader_faults
+returns-clause-reader_faults g c = grind (arith, common_steps)
+
+pub returns-clause-writer_faults : goal.returns-clause-writer_faults
+returns-clause-writer_faults g c = grind (arith, common_steps)
+
+pub returns-clause-flushed : goal.returns-clause-flushed
+returns-clause-flushed g c = grind (arith, common_steps)
+
+pub returns-clause-reads : goal.returns-clause-reads
+returns-clause-reads g c = grind (arith, common_steps)
+
+pub returns-clause-turns : goal.returns-clause-turns
+returns-clause-turns g c = grind (arith, common_steps)

@@ -1,4 +1,5 @@
-use Rattle.std.proofs.Common.{ℕ, List, subst}
+use Rattle.std.proofs.lemmas.Grind.{common_steps}
+use Rattle.std.proofs.Common.{ℕ, List, subst, arith}
 use Rattle.clap.specs.Words.{found_of, rows_of}
 use Rattle.ilpstream_settings.specs.Ledger as ledger
 use Rattle.ilpstream_settings.specs.Numbers.{IsNumber}
@@ -45,3 +46,27 @@ returns-in_err-byte_of-in-explain c =
     rw c.from_residual-in_err-byte_of-in-explain.ensures
     (bad_explain c.args.name.now (rows_of (found_of c.args.matches.now)) c.in-explain.is
     (subst (λ (t : List ℕ). (n : ℕ) → ¬ (IsNumber 255 t n)) c.value.ensures c.in_err-byte_of-in-explain.ensures))
+
+pub returns-in-frames : goal.returns-in-frames
+returns-in-frames c = grind (arith, common_steps)
+
+pub returns-in_ok-read-in-local : goal.returns-in_ok-read-in-local
+returns-in_ok-read-in-local c = grind (arith, common_steps)
+
+pub returns-in-Some : goal.returns-in-Some
+returns-in-Some c = grind (arith, common_steps)
+
+pub returns-in_ok-read-in-receive : goal.returns-in_ok-read-in-receive
+returns-in_ok-read-in-receive c = grind (arith, common_steps)
+
+pub returns-in_ok-read-in-connector : goal.returns-in_ok-read-in-connector
+returns-in_ok-read-in-connector c = grind (arith, common_steps)
+
+pub returns-in_ok-read-in-ledger : goal.returns-in_ok-read-in-ledger
+returns-in_ok-read-in-ledger c = grind (arith, common_steps)
+
+pub returns-in_ok-byte_of-in-explain : goal.returns-in_ok-byte_of-in-explain
+returns-in_ok-byte_of-in-explain c = grind (arith, common_steps)
+
+pub returns-in_default : goal.returns-in_default
+returns-in_default c = grind (arith, common_steps)

@@ -1,3 +1,4 @@
+use Rattle.std.proofs.lemmas.Grind.{common_steps}
 use Rattle.std.proofs.lemmas.Option.{same_Some}
 use Rattle.std.proofs.Common.{◌≡◌, ◌++◌, ◌∷◌, [], rules, arith, refl, sym, ap, ◌∙◌}
 use Rattle.sqlite_trees.specs.View.{View}
@@ -60,3 +61,72 @@ returns-in-rows-clause-keeps g c =
     let mid = g.S.Store.view c.rows.store in
     let new = g.S.Store.view c.next.new.self in
     keeps_then _ mid new c.rows.invariant.3 (keeps_written mid new c.in_ok-next.ensures.schema (λ clean. only_reads mid new (c.in_ok-next.ensures.moves clean).same) (clean_open new (g.met.S.Store.shut_if_dirty c.next.new.self)))
+
+pub seek-requires-clause-table : goal.seek-requires-clause-table
+seek-requires-clause-table g c = grind (arith, common_steps)
+
+pub seek-requires-clause-frozen : goal.seek-requires-clause-frozen
+seek-requires-clause-frozen g c = grind (arith, common_steps)
+
+pub returns-in_err-seek-clause-found : goal.returns-in_err-seek-clause-found
+returns-in_err-seek-clause-found g c = grind (arith, common_steps)
+
+pub returns-in_err-seek-clause-sound : goal.returns-in_err-seek-clause-sound
+returns-in_err-seek-clause-sound g c = grind (arith, common_steps)
+
+pub returns-in_err-seek-clause-keeps : goal.returns-in_err-seek-clause-keeps
+returns-in_err-seek-clause-keeps g c = grind (arith, common_steps)
+
+pub returns-in_err-seek-clause-quiet : goal.returns-in_err-seek-clause-quiet
+returns-in_err-seek-clause-quiet g c = grind (arith, common_steps)
+
+pub returns-in_err-seek-clause-cause : goal.returns-in_err-seek-clause-cause
+returns-in_err-seek-clause-cause g c = grind (arith, common_steps)
+
+pub next-requires : goal.next-requires
+next-requires g c = grind (arith, common_steps)
+
+pub returns-in_err-next-clause-found : goal.returns-in_err-next-clause-found
+returns-in_err-next-clause-found g c = grind (arith, common_steps)
+
+pub returns-in_err-next-clause-sound : goal.returns-in_err-next-clause-sound
+returns-in_err-next-clause-sound g c = grind (arith, common_steps)
+
+pub returns-in_err-next-clause-quiet : goal.returns-in_err-next-clause-quiet
+returns-in_err-next-clause-quiet g c = grind (arith, common_steps)
+
+pub returns-in_err-next-clause-cause : goal.returns-in_err-next-clause-cause
+returns-in_err-next-clause-cause g c = grind (arith, common_steps)
+
+pub returns-then-not-branch-clause-found : goal.returns-then-not-branch-clause-found
+returns-then-not-branch-clause-found g c = grind (arith, common_steps)
+
+pub returns-then-not-branch-clause-sound : goal.returns-then-not-branch-clause-sound
+returns-then-not-branch-clause-sound g c = grind (arith, common_steps)
+
+pub returns-then-not-branch-clause-quiet : goal.returns-then-not-branch-clause-quiet
+returns-then-not-branch-clause-quiet g c = grind (arith, common_steps)
+
+pub returns-in_default-count_in-clause-quiet : goal.returns-in_default-count_in-clause-quiet
+returns-in_default-count_in-clause-quiet g c = grind (arith, common_steps)
+
+pub returns-in_default-count_in-clause-cause : goal.returns-in_default-count_in-clause-cause
+returns-in_default-count_in-clause-cause g c = grind (arith, common_steps)
+
+pub returns-in-rows-clause-found : goal.returns-in-rows-clause-found
+returns-in-rows-clause-found g c = grind (arith, common_steps)
+
+pub returns-in-rows-clause-sound : goal.returns-in-rows-clause-sound
+returns-in-rows-clause-sound g c = grind (arith, common_steps)
+
+pub returns-in-rows-clause-quiet : goal.returns-in-rows-clause-quiet
+returns-in-rows-clause-quiet g c = grind (arith, common_steps)
+
+pub returns-clause-keeps : goal.returns-clause-keeps
+returns-clause-keeps g c = grind (arith, common_steps)
+
+pub returns-clause-quiet : goal.returns-clause-quiet
+returns-clause-quiet g c = grind (arith, common_steps)
+
+pub returns-clause-cause : goal.returns-clause-cause
+returns-clause-cause g c = grind (arith, common_steps)

@@ -1,3 +1,4 @@
+use Rattle.std.proofs.lemmas.Grind.{common_steps}
 use Rattle.std.proofs.Common.{◌≡◌, ◌+◌, length, map, take, sym, subst, ap, ◌∙◌, arith}
 use Rattle.std.specs.Prelude.{sum}
 use Rattle.st_receiver.specs.Streams.{delivered_of}
@@ -19,3 +20,12 @@ pub returns-clause-fits : goal.returns-clause-fits
 returns-clause-fits g c =
     let whole = ap length c.deref-slot-items.ensures.value ∙ c.requires in
     omega (arith, c.loop-slot.invariant.1, c.loop-slot.auto.slot-index-end, whole)
+
+pub loop-slot-init : goal.loop-slot-init
+loop-slot-init g c = grind (arith, common_steps)
+
+pub offset_bounds-slot-items-slot-index : goal.offset_bounds-slot-items-slot-index
+offset_bounds-slot-items-slot-index g c = grind (arith, common_steps)
+
+pub returns-clause-total : goal.returns-clause-total
+returns-clause-total g c = grind (arith, common_steps)

@@ -15,3 +15,9 @@ bounds-links-link g c = c.requires
 
 pub offset_bounds-links-link : goal.offset_bounds-links-link
 offset_bounds-links-link g c = grind (arith, common_steps)
+
+pub returns-in_err-told-in-ToServer-clause-met : goal.returns-in_err-told-in-ToServer-clause-met
+returns-in_err-told-in-ToServer-clause-met g c = grind (arith, common_steps)
+
+pub returns-in_err-told-in-ToClient-clause-met : goal.returns-in_err-told-in-ToClient-clause-met
+returns-in_err-told-in-ToClient-clause-met g c = grind (arith, common_steps)

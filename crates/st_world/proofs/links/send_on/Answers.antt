@@ -15,3 +15,9 @@ bounds-links-link g c = c.requires
 
 pub offset_bounds-links-link : goal.offset_bounds-links-link
 offset_bounds-links-link g c = grind (arith, common_steps)
+
+pub returns-in_err-told-in-ToServer-clause-sent : goal.returns-in_err-told-in-ToServer-clause-sent
+returns-in_err-told-in-ToServer-clause-sent g c = grind (arith, common_steps)
+
+pub returns-in_err-told-in-ToClient-clause-sent : goal.returns-in_err-told-in-ToClient-clause-sent
+returns-in_err-told-in-ToClient-clause-sent g c = grind (arith, common_steps)

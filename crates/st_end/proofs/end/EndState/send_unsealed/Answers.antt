@@ -1,4 +1,5 @@
-use Rattle.std.proofs.Common.{◌≡◌, refl, subst, List, ℕ, false, rules}
+use Rattle.std.proofs.lemmas.Grind.{common_steps}
+use Rattle.std.proofs.Common.{◌≡◌, refl, subst, List, ℕ, false, rules, arith}
 use Rattle.std.specs.Arc.{arc_value}
 use Rattle.st_receiver.specs.Limits.{limits}
 use Rattle.st_end.specs.Inside.{IsSpelled}
@@ -51,3 +52,30 @@ returns-in-Err-clause-unchanged g c =
     let own = limits c.self.inside.intake.state in
     let sends = sends_this c.self.inside.outbox c.next_load.new.outbox own c.in_ok-load.field-0 c.in-Some.load c.in-Some.is c.in_ok-load.ensures.sends in
     undone _ c.args.self.now c.take_back.new.self c.launch.new.conditions c.self.view_is (c.take_back.ensures.undoes c.self.inside.outbox own 32739 sends) c.in-Err.ensures.unchanged
+
+pub same-self : goal.same-self
+same-self g c = grind (arith, common_steps)
+
+pub returns-then-is_closed-clause-goes : goal.returns-then-is_closed-clause-goes
+returns-then-is_closed-clause-goes g c = grind (arith, common_steps)
+
+pub invariant_of-self : goal.invariant_of-self
+invariant_of-self g c = grind (arith, common_steps)
+
+pub returns-in_err-load-clause-only_memory : goal.returns-in_err-load-clause-only_memory
+returns-in_err-load-clause-only_memory g c = grind (arith, common_steps)
+
+pub returns-in_err-load-clause-goes : goal.returns-in_err-load-clause-goes
+returns-in_err-load-clause-goes g c = grind (arith, common_steps)
+
+pub returns-in_err-load-clause-amount : goal.returns-in_err-load-clause-amount
+returns-in_err-load-clause-amount g c = grind (arith, common_steps)
+
+pub returns-in_err-load-clause-unchanged : goal.returns-in_err-load-clause-unchanged
+returns-in_err-load-clause-unchanged g c = grind (arith, common_steps)
+
+pub launch-requires-clause-peer : goal.launch-requires-clause-peer
+launch-requires-clause-peer g c = grind (arith, common_steps)
+
+pub returns-in-Err-clause-only_memory : goal.returns-in-Err-clause-only_memory
+returns-in-Err-clause-only_memory g c = grind (arith, common_steps)

@@ -1,3 +1,4 @@
+use Rattle.std.proofs.lemmas.Grind.{common_steps}
 use Rattle.std.proofs.Common.{◌<◌, ◌∙◌, Some, length, ap, arith}
 use Rattle.std.proofs.lemmas.List.{length-set}
 use Rattle.st_receiver.specs.Standing.{Standing}
@@ -31,3 +32,39 @@ returns-then-is_some-clause-stays g c = λ k ready. ready
 
 pub returns-in_default-clause-stays : goal.returns-in_default-clause-stays
 returns-in_default-clause-stays g c = λ k ready. ready
+
+pub returns-then-stream-ge65-clause-state : goal.returns-then-stream-ge65-clause-state
+returns-then-stream-ge65-clause-state g c = grind (arith, common_steps)
+
+pub returns-then-stream-ge65-clause-ready : goal.returns-then-stream-ge65-clause-ready
+returns-then-stream-ge65-clause-ready g c = grind (arith, common_steps)
+
+pub same-self : goal.same-self
+same-self g c = grind (arith, common_steps)
+
+pub returns-then-is_open-clause-state : goal.returns-then-is_open-clause-state
+returns-then-is_open-clause-state g c = grind (arith, common_steps)
+
+pub returns-then-is_open-clause-ready : goal.returns-then-is_open-clause-ready
+returns-then-is_open-clause-ready g c = grind (arith, common_steps)
+
+pub index-requires : goal.index-requires
+index-requires g c = grind (arith, common_steps)
+
+pub same-self-then-is_some : goal.same-self-then-is_some
+same-self-then-is_some g c = grind (arith, common_steps)
+
+pub returns-then-is_some-clause-state : goal.returns-then-is_some-clause-state
+returns-then-is_some-clause-state g c = grind (arith, common_steps)
+
+pub same-self-in_default : goal.same-self-in_default
+same-self-in_default g c = grind (arith, common_steps)
+
+pub returns-in_default-clause-only_memory : goal.returns-in_default-clause-only_memory
+returns-in_default-clause-only_memory g c = grind (arith, common_steps)
+
+pub returns-in_default-clause-state : goal.returns-in_default-clause-state
+returns-in_default-clause-state g c = grind (arith, common_steps)
+
+pub index_mut-requires : goal.index_mut-requires
+index_mut-requires g c = grind (arith, common_steps)

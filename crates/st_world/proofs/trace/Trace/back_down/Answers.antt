@@ -12,3 +12,21 @@ pub index_mut-node-requires : goal.index_mut-node-requires
 index_mut-node-requires g c =
     let within = subst (λ (t : Left). c.args.link < length t.nodes) (sym c.self.view_is) c.requires.hop in
     omega (arith, within, c.self.inside.nodes.ok)
+
+pub back_to_hop_down-requires : goal.back_to_hop_down-requires
+back_to_hop_down-requires g c = grind (arith, common_steps)
+
+pub returns-in_err-told-clause-met : goal.returns-in_err-told-clause-met
+returns-in_err-told-clause-met g c = grind (arith, common_steps)
+
+pub returns-in_err-told-clause-same_self : goal.returns-in_err-told-clause-same_self
+returns-in_err-told-clause-same_self g c = grind (arith, common_steps)
+
+pub returns-in_err-told-clause-same_links : goal.returns-in_err-told-clause-same_links
+returns-in_err-told-clause-same_links g c = grind (arith, common_steps)
+
+pub returns-in_err-told-clause-nodes : goal.returns-in_err-told-clause-nodes
+returns-in_err-told-clause-nodes g c = grind (arith, common_steps)
+
+pub returns-clause-nodes : goal.returns-clause-nodes
+returns-clause-nodes g c = grind (arith, common_steps)

@@ -53,3 +53,159 @@ returns-in-Crash-clause-happens g c =
 
 pub slice_bounds-write-end : goal.slice_bounds-write-end
 slice_bounds-write-end g c = grind (arith, common_steps)
+
+pub returns-in_err-told-in-Write-clause-happens : goal.returns-in_err-told-in-Write-clause-happens
+returns-in_err-told-in-Write-clause-happens g c = grind (arith, common_steps)
+
+pub returns-in_err-told-in-Write-clause-nodes : goal.returns-in_err-told-in-Write-clause-nodes
+returns-in_err-told-in-Write-clause-nodes g c = grind (arith, common_steps)
+
+pub returns-in_err-told-in-Write-clause-memory : goal.returns-in_err-told-in-Write-clause-memory
+returns-in_err-told-in-Write-clause-memory g c = grind (arith, common_steps)
+
+pub returns-then-max-eq0-clause-happens : goal.returns-then-max-eq0-clause-happens
+returns-then-max-eq0-clause-happens g c = grind (arith, common_steps)
+
+pub returns-then-max-eq0-clause-nodes : goal.returns-then-max-eq0-clause-nodes
+returns-then-max-eq0-clause-nodes g c = grind (arith, common_steps)
+
+pub returns-then-max-eq0-clause-memory : goal.returns-then-max-eq0-clause-memory
+returns-then-max-eq0-clause-memory g c = grind (arith, common_steps)
+
+pub read-requires : goal.read-requires
+read-requires g c = grind (arith, common_steps)
+
+pub returns-in_err-told-in-Read-clause-happens : goal.returns-in_err-told-in-Read-clause-happens
+returns-in_err-told-in-Read-clause-happens g c = grind (arith, common_steps)
+
+pub returns-in_err-told-in-Read-clause-nodes : goal.returns-in_err-told-in-Read-clause-nodes
+returns-in_err-told-in-Read-clause-nodes g c = grind (arith, common_steps)
+
+pub returns-in_err-told-in-Read-clause-memory : goal.returns-in_err-told-in-Read-clause-memory
+returns-in_err-told-in-Read-clause-memory g c = grind (arith, common_steps)
+
+pub returns-then-code-eq1-clause-happens : goal.returns-then-code-eq1-clause-happens
+returns-then-code-eq1-clause-happens g c = grind (arith, common_steps)
+
+pub returns-then-code-eq1-clause-nodes : goal.returns-then-code-eq1-clause-nodes
+returns-then-code-eq1-clause-nodes g c = grind (arith, common_steps)
+
+pub returns-then-code-eq1-clause-memory : goal.returns-then-code-eq1-clause-memory
+returns-then-code-eq1-clause-memory g c = grind (arith, common_steps)
+
+pub abort-requires : goal.abort-requires
+abort-requires g c = grind (arith, common_steps)
+
+pub send-requires : goal.send-requires
+send-requires g c = grind (arith, common_steps)
+
+pub returns-in_err-told-in-Send-clause-happens : goal.returns-in_err-told-in-Send-clause-happens
+returns-in_err-told-in-Send-clause-happens g c = grind (arith, common_steps)
+
+pub returns-in_err-told-in-Send-clause-nodes : goal.returns-in_err-told-in-Send-clause-nodes
+returns-in_err-told-in-Send-clause-nodes g c = grind (arith, common_steps)
+
+pub returns-in_err-told-in-Send-clause-memory : goal.returns-in_err-told-in-Send-clause-memory
+returns-in_err-told-in-Send-clause-memory g c = grind (arith, common_steps)
+
+pub arrive-requires : goal.arrive-requires
+arrive-requires g c = grind (arith, common_steps)
+
+pub returns-in_err-told-in-Arrive-clause-nodes : goal.returns-in_err-told-in-Arrive-clause-nodes
+returns-in_err-told-in-Arrive-clause-nodes g c = grind (arith, common_steps)
+
+pub returns-in_err-told-in-Arrive-clause-memory : goal.returns-in_err-told-in-Arrive-clause-memory
+returns-in_err-told-in-Arrive-clause-memory g c = grind (arith, common_steps)
+
+pub answer-requires : goal.answer-requires
+answer-requires g c = grind (arith, common_steps)
+
+pub fault-requires : goal.fault-requires
+fault-requires g c = grind (arith, common_steps)
+
+pub returns-in_err-told-in-Fault-clause-happens : goal.returns-in_err-told-in-Fault-clause-happens
+returns-in_err-told-in-Fault-clause-happens g c = grind (arith, common_steps)
+
+pub returns-in_err-told-in-Fault-clause-nodes : goal.returns-in_err-told-in-Fault-clause-nodes
+returns-in_err-told-in-Fault-clause-nodes g c = grind (arith, common_steps)
+
+pub returns-in_err-told-in-Fault-clause-memory : goal.returns-in_err-told-in-Fault-clause-memory
+returns-in_err-told-in-Fault-clause-memory g c = grind (arith, common_steps)
+
+pub returns-in-OpenStream-clause-nodes : goal.returns-in-OpenStream-clause-nodes
+returns-in-OpenStream-clause-nodes g c = grind (arith, common_steps)
+
+pub returns-in-OpenStream-clause-memory : goal.returns-in-OpenStream-clause-memory
+returns-in-OpenStream-clause-memory g c = grind (arith, common_steps)
+
+pub returns-in_ok-told-in-Write-clause-nodes : goal.returns-in_ok-told-in-Write-clause-nodes
+returns-in_ok-told-in-Write-clause-nodes g c = grind (arith, common_steps)
+
+pub returns-in_ok-told-in-Write-clause-memory : goal.returns-in_ok-told-in-Write-clause-memory
+returns-in_ok-told-in-Write-clause-memory g c = grind (arith, common_steps)
+
+pub returns-in_ok-told-in-Read-clause-nodes : goal.returns-in_ok-told-in-Read-clause-nodes
+returns-in_ok-told-in-Read-clause-nodes g c = grind (arith, common_steps)
+
+pub returns-in_ok-told-in-Read-clause-memory : goal.returns-in_ok-told-in-Read-clause-memory
+returns-in_ok-told-in-Read-clause-memory g c = grind (arith, common_steps)
+
+pub returns-in-Close-clause-nodes : goal.returns-in-Close-clause-nodes
+returns-in-Close-clause-nodes g c = grind (arith, common_steps)
+
+pub returns-in-Close-clause-memory : goal.returns-in-Close-clause-memory
+returns-in-Close-clause-memory g c = grind (arith, common_steps)
+
+pub returns-else-code-eq1-clause-nodes : goal.returns-else-code-eq1-clause-nodes
+returns-else-code-eq1-clause-nodes g c = grind (arith, common_steps)
+
+pub returns-else-code-eq1-clause-memory : goal.returns-else-code-eq1-clause-memory
+returns-else-code-eq1-clause-memory g c = grind (arith, common_steps)
+
+pub returns-in-Offer-clause-nodes : goal.returns-in-Offer-clause-nodes
+returns-in-Offer-clause-nodes g c = grind (arith, common_steps)
+
+pub returns-in-Offer-clause-memory : goal.returns-in-Offer-clause-memory
+returns-in-Offer-clause-memory g c = grind (arith, common_steps)
+
+pub returns-in-ReceiveMax-clause-nodes : goal.returns-in-ReceiveMax-clause-nodes
+returns-in-ReceiveMax-clause-nodes g c = grind (arith, common_steps)
+
+pub returns-in-ReceiveMax-clause-memory : goal.returns-in-ReceiveMax-clause-memory
+returns-in-ReceiveMax-clause-memory g c = grind (arith, common_steps)
+
+pub returns-in_ok-told-in-Send-clause-nodes : goal.returns-in_ok-told-in-Send-clause-nodes
+returns-in_ok-told-in-Send-clause-nodes g c = grind (arith, common_steps)
+
+pub returns-in_ok-told-in-Send-clause-memory : goal.returns-in_ok-told-in-Send-clause-memory
+returns-in_ok-told-in-Send-clause-memory g c = grind (arith, common_steps)
+
+pub returns-in_ok-told-in-Arrive-clause-nodes : goal.returns-in_ok-told-in-Arrive-clause-nodes
+returns-in_ok-told-in-Arrive-clause-nodes g c = grind (arith, common_steps)
+
+pub returns-in_ok-told-in-Arrive-clause-memory : goal.returns-in_ok-told-in-Arrive-clause-memory
+returns-in_ok-told-in-Arrive-clause-memory g c = grind (arith, common_steps)
+
+pub returns-in_ok-told-in-Fault-clause-happens : goal.returns-in_ok-told-in-Fault-clause-happens
+returns-in_ok-told-in-Fault-clause-happens g c = grind (arith, common_steps)
+
+pub returns-in_ok-told-in-Fault-clause-nodes : goal.returns-in_ok-told-in-Fault-clause-nodes
+returns-in_ok-told-in-Fault-clause-nodes g c = grind (arith, common_steps)
+
+pub returns-in_ok-told-in-Fault-clause-memory : goal.returns-in_ok-told-in-Fault-clause-memory
+returns-in_ok-told-in-Fault-clause-memory g c = grind (arith, common_steps)
+
+pub returns-in-Crash-clause-nodes : goal.returns-in-Crash-clause-nodes
+returns-in-Crash-clause-nodes g c = grind (arith, common_steps)
+
+pub returns-in-Crash-clause-memory : goal.returns-in-Crash-clause-memory
+returns-in-Crash-clause-memory g c = grind (arith, common_steps)
+
+pub returns-in-Refused-clause-happens : goal.returns-in-Refused-clause-happens
+returns-in-Refused-clause-happens g c = grind (arith, common_steps)
+
+pub returns-in-Refused-clause-nodes : goal.returns-in-Refused-clause-nodes
+returns-in-Refused-clause-nodes g c = grind (arith, common_steps)
+
+pub returns-in-Refused-clause-memory : goal.returns-in-Refused-clause-memory
+returns-in-Refused-clause-memory g c = grind (arith, common_steps)
