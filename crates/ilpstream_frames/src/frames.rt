@@ -30,7 +30,7 @@ use std::marker::Model;
 const PIECE: usize = 65_536;
 
 /// Whether a line was refused, once all lines were read.
-#[derive(Clone, Copy)]
+#[derive(Clone, Copy, PartialEq, Eq)]
 pub enum Lines {
     /// Each line that is not empty was accepted.
     AllTaken,
