@@ -27,8 +27,8 @@ WEIGHTS = {
     "st_receiver": 294, "ilpstream_log": 278, "ilpstream_serving": 274, "ilpstream_frames": 251, "st_hop": 247, "st_aes": 245,
     "ilpstream_local": 236, "ilpstream": 231, "st_http": 225, "st_hop_desk": 224, "ilpstream_ledger": 223, "ilpstream_main": 217,
     "ilpstream_transfer": 196, "st_unacked": 181, "st_ilp": 157, "st_frames": 157, "st_queues": 150, "st_reassembly": 130,
-    "st_oer": 107, "st_lanes": 82, "st_file": 80, "st_devices": 77, "st_keys": 55, "st_links": 46, "ilpstream_explain": 41,
-    "st_streams": 34, "ilpstream_output": 30,
+    "st_oer": 107, "st_lanes": 82, "st_file": 80, "st_devices": 77, "st_keys": 55, "st_links": 46, "ilpstream_output": 55,
+    "st_streams": 34,
 }
 OTHER = 100
 # Memory in bytes: what a check takes at most, and what each further job of it takes.

@@ -1,6 +1,6 @@
 #!/usr/bin/env python3
 """Writes what docs/errors.toml says of each number of a fault or a refusal: the tables `Faults of the program` and `All numbers`
-of docs/ERRORS.md, and the table of ilpstream_explain, from which `ilpstream explain N` prints. Run it after a change of docs/errors.toml.
+of docs/ERRORS.md, and the table of ilpstream_output, from which `ilpstream explain N` prints. Run it after a change of docs/errors.toml.
 
 A row has the number, the crate and the variant that give it, its cause, and what to do (`advice`), as Markdown. `faults` names
 the commands that print `fault N` by this row, and `line` says that `frames` refuses a line with this number.
@@ -17,9 +17,9 @@ from crates import TOP, read, write
 
 TABLE = "docs/errors.toml"
 DOCUMENT = "docs/ERRORS.md"
-ROWS = "crates/ilpstream_explain/specs/Rows.antt"
-TEXTS = "crates/ilpstream_explain/src/texts.rt"
-ANSWERS = "crates/ilpstream_explain/proofs/texts/tens_{}/Answers.antt"
+ROWS = "crates/ilpstream_output/specs/Rows.antt"
+TEXTS = "crates/ilpstream_output/src/explanations.rt"
+ANSWERS = "crates/ilpstream_output/proofs/explanations/tens_{}/Answers.antt"
 
 # The commands, in the order of the document's columns.
 COMMANDS = ["frames", "local", "send", "receive", "connector", "ledger", "explain"]
@@ -139,7 +139,7 @@ def specs(rows):
     head = [
         "-- The table of faults and refusals: docs/errors.toml, as tools/errors.py writes it.",
         "use Rattle.std.specs.Prelude.{ℕ, List, [], ◌∷◌, codes}",
-        "use Rattle.ilpstream_explain.specs.Row.{Row}",
+        "use Rattle.ilpstream_output.specs.Row.{Row}",
         "",
         "-- the tens of the greatest number",
         "abbrev pub last_ten : ℕ",
@@ -187,8 +187,8 @@ def source(rows):
         "",
         "ghost use Rattle.std.specs.Prelude.{◌≡◌, ◌<◌, ◌*◌, map, option_map, MatchOption};",
         "ghost use Rattle.std.specs.List.{range_with_len};",
-        "ghost use Rattle.ilpstream_explain.specs.Explaining.{explanation};",
-        "ghost use Rattle.ilpstream_explain.specs.Rows.{last_ten};",
+        "ghost use Rattle.ilpstream_output.specs.Explaining.{explanation};",
+        "ghost use Rattle.ilpstream_output.specs.Rows.{last_ten};",
         "",
     ]
     out = []
@@ -217,9 +217,9 @@ def answers(tens):
     """The proof of the texts of ten numbers: they compute."""
     return f"""use Rattle.std.proofs.Common.{{refl}}
 use Rattle.std.specs.Fmt.{{digits}}
-use Rattle.ilpstream_explain.specs.Rows.{{rows}}
-use Rattle.ilpstream_explain.specs.Explaining.{{explanation}}
-use Rattle.ilpstream_explain.proofs.texts.tens_{tens}.Goals as goal
+use Rattle.ilpstream_output.specs.Rows.{{rows}}
+use Rattle.ilpstream_output.specs.Explaining.{{explanation}}
+use Rattle.ilpstream_output.proofs.explanations.tens_{tens}.Goals as goal
 
 pub returns : goal.returns
 unfolding digits rows explanation

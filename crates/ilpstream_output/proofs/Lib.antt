@@ -1,1 +1,2 @@
 pub mod Spending
+mod Above

@@ -1,4 +1,0 @@
-pub mod Row
-pub mod Rows
-pub mod Explaining
-pub mod Explain
