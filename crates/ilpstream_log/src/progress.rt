@@ -106,8 +106,7 @@ fn part_text(alloc: Global, bytes: u64, length: Option<u64>) -> Result<String, A
         return Ok(String::new(alloc));
     };
     let percent = percent(bytes, length);
-    let text = format!(in alloc; " ({percent} %)")?;
-    Ok(text)
+    format!(in alloc; " ({percent} %)")
 }
 
 /// A time as in 1:02:03.
@@ -129,57 +128,52 @@ fn left_text(alloc: Global, seconds: Option<u128>) -> Result<String, AllocError>
         return Ok(String::new(alloc));
     };
     let time = time_text(alloc, seconds)?;
-    let text = format!(in alloc; ", {time} left")?;
-    Ok(text)
+    format!(in alloc; ", {time} left")
 }
 
 fn waits_text(alloc: Global, waits: Option<Blocked>) -> Result<String, AllocError>
     ensures { IfOk result (λ text. string_bytes text ≡ spec.waits_text waits) }
 {
-    let text = match waits {
-        None => String::new(alloc),
+    match waits {
+        None => Ok(String::new(alloc)),
         Some(Blocked::Connection { max_offset: limit }) => {
-            format!(in alloc; " (waits at the limit of {limit} bytes)")?
+            format!(in alloc; " (waits at the limit of {limit} bytes)")
         }
         Some(
             Blocked::Data {
                 max_offset: limit,
                 ..
             },
-        ) => { format!(in alloc; " (waits at the limit of {limit} bytes)")? }
+        ) => { format!(in alloc; " (waits at the limit of {limit} bytes)") }
         Some(Blocked::Money { receive_max, .. }) => {
-            format!(in alloc; " (waits at the limit of {receive_max} units)")?
+            format!(in alloc; " (waits at the limit of {receive_max} units)")
         }
-    };
-    Ok(text)
+    }
 }
 
 fn link_text(alloc: Global, fault: u8, status: Option<u16>) -> Result<String, AllocError>
     ensures { IfOk result (λ text. string_bytes text ≡ spec.failure_text (Some (brief.Link fault status))) }
 {
-    let text = match status {
+    match status {
         Some(status) => {
-            format!(in alloc; " (last failure: link fault {fault} status {status})")?
+            format!(in alloc; " (last failure: link fault {fault} status {status})")
         }
-        None => format!(in alloc; " (last failure: link fault {fault})")?,
-    };
-    Ok(text)
+        None => format!(in alloc; " (last failure: link fault {fault})"),
+    }
 }
 
 fn unreached_text(alloc: Global, why: Unreached) -> Result<String, AllocError>
     ensures { IfOk result (λ text. string_bytes text ≡ spec.failure_text (Some (brief.Unreached why))) }
 {
     let word = why.word();
-    let text = format!(in alloc; " (last failure: {word})")?;
-    Ok(text)
+    format!(in alloc; " (last failure: {word})")
 }
 
 fn reject_text(alloc: Global, code: &[u8; 3]) -> Result<String, AllocError>
     ensures { IfOk result (λ text. string_bytes text ≡ spec.failure_text (Some (brief.Reject code.now))) }
 {
     let code = code_text(alloc, code)?;
-    let text = format!(in alloc; " (last failure: reject {code})")?;
-    Ok(text)
+    format!(in alloc; " (last failure: reject {code})")
 }
 
 fn failure_text(alloc: Global, last: Option<Brief>) -> Result<String, AllocError>
@@ -214,8 +208,7 @@ fn tail_text(alloc: Global, progress: &Progress) -> Result<String, AllocError>
     let left = left_text(alloc, seconds)?;
     let limit = waits_text(alloc, waits)?;
     let failure = failure_text(alloc, last)?;
-    let text = format!(in alloc; "{left}{limit}{failure}")?;
-    Ok(text)
+    format!(in alloc; "{left}{limit}{failure}")
 }
 
 /// The line of a transfer that is so far: from the first column of a terminal, whose line it rewrites, and back to it. It has no
@@ -236,8 +229,7 @@ pub fn shown(alloc: Global, progress: &Progress) -> Result<String, AllocError>
     let part = part_text(alloc, bytes, length)?;
     let rate = rate(gained, millis);
     let tail = tail_text(alloc, progress)?;
-    let text = format!(in alloc;
+    format!(in alloc;
         "\r{bytes} bytes{part}, {rate} bytes/s, {units} units{tail}\x1b[K\r"
-    )?;
-    Ok(text)
+    )
 }

@@ -20,10 +20,9 @@ fn send_text(
     let to = quoted(alloc, to.as_bytes())?;
     let address = quoted(alloc, address.as_bytes())?;
     let peer = quoted(alloc, peer.as_bytes())?;
-    let text = format!(in alloc;
+    format!(in alloc;
         "start command=send to={to} address={address} peer={peer} money={money} workers={workers}\n"
-    )?;
-    Ok(text)
+    )
 }
 
 fn receive_text(
@@ -38,10 +37,9 @@ fn receive_text(
     let listen = quoted(alloc, listen.as_bytes())?;
     let address = quoted(alloc, address.as_bytes())?;
     let peer = quoted(alloc, peer.as_bytes())?;
-    let text = format!(in alloc;
+    format!(in alloc;
         "start command=receive listen={listen} address={address} peer={peer} receive_max={most}\n"
-    )?;
-    Ok(text)
+    )
 }
 
 fn connector_text(
@@ -55,10 +53,9 @@ fn connector_text(
 {
     let listen = quoted(alloc, listen.as_bytes())?;
     let own = quoted(alloc, own.as_bytes())?;
-    let text = format!(in alloc;
+    format!(in alloc;
         "start command=connector listen={listen} own={own} workers={workers} requests={requests}\n"
-    )?;
-    Ok(text)
+    )
 }
 
 /// The line of a connector that answers any number of requests.
@@ -67,10 +64,9 @@ fn endless_text(alloc: Global, listen: &str, own: &str, workers: u8) -> Result<S
 {
     let listen = quoted(alloc, listen.as_bytes())?;
     let own = quoted(alloc, own.as_bytes())?;
-    let text = format!(in alloc;
+    format!(in alloc;
         "start command=connector listen={listen} own={own} workers={workers} requests=endless\n"
-    )?;
-    Ok(text)
+    )
 }
 
 pub(crate) fn start_text(alloc: Global, start: Start<'_>) -> Result<String, AllocError>

@@ -15,15 +15,13 @@ fn listening_text(alloc: Global, address: &str) -> Result<String, AllocError>
     ensures { IfOk result (λ text. string_bytes text ≡ spec.listening_text address.now) }
 {
     let address = bare(alloc, address.as_bytes())?;
-    let text = format!(in alloc; "listening address={address}\n")?;
-    Ok(text)
+    format!(in alloc; "listening address={address}\n")
 }
 
 fn link_text(alloc: Global, neighbour: usize, fault: u8) -> Result<String, AllocError>
     ensures { IfOk result (λ text. string_bytes text ≡ spec.link_text neighbour fault) }
 {
-    let text = format!(in alloc; "exchange neighbour={neighbour} cause=link fault={fault}\n")?;
-    Ok(text)
+    format!(in alloc; "exchange neighbour={neighbour} cause=link fault={fault}\n")
 }
 
 fn status_text(
@@ -34,18 +32,16 @@ fn status_text(
 ) -> Result<String, AllocError>
     ensures { IfOk result (λ text. string_bytes text ≡ spec.status_text neighbour fault status) }
 {
-    let text = format!(in alloc;
+    format!(in alloc;
         "exchange neighbour={neighbour} cause=link fault={fault} status={status}\n"
-    )?;
-    Ok(text)
+    )
 }
 
 fn reject_front(alloc: Global, neighbour: usize, code: &[u8; 3]) -> Result<String, AllocError>
     ensures { IfOk result (λ text. string_bytes text ≡ spec.reject_front neighbour code.now) }
 {
     let code = code_text(alloc, code)?;
-    let text = format!(in alloc; "exchange neighbour={neighbour} cause=reject code={code} ")?;
-    Ok(text)
+    format!(in alloc; "exchange neighbour={neighbour} cause=reject code={code} ")
 }
 
 fn reject_back(alloc: Global, by: &str, message: &str) -> Result<String, AllocError>
@@ -53,8 +49,7 @@ fn reject_back(alloc: Global, by: &str, message: &str) -> Result<String, AllocEr
 {
     let by = quoted_short(alloc, by.as_bytes())?;
     let message = quoted_short(alloc, message.as_bytes())?;
-    let text = format!(in alloc; "triggered_by={by} message={message}\n")?;
-    Ok(text)
+    format!(in alloc; "triggered_by={by} message={message}\n")
 }
 
 /// A text, and then another one.
@@ -83,8 +78,7 @@ fn reject_text(
 fn plain_cause_text(alloc: Global, neighbour: usize, word: &str) -> Result<String, AllocError>
     ensures { IfOk result (λ text. string_bytes text ≡ spec.plain_cause_text neighbour word.now) }
 {
-    let text = format!(in alloc; "exchange neighbour={neighbour} cause={word}\n")?;
-    Ok(text)
+    format!(in alloc; "exchange neighbour={neighbour} cause={word}\n")
 }
 
 fn exchange_text(alloc: Global, neighbour: usize, cause: Cause<'_>) -> Result<String, AllocError>
@@ -111,8 +105,7 @@ fn refused_text(alloc: Global, neighbour: usize, code: &[u8; 3]) -> Result<Strin
     ensures { IfOk result (λ text. string_bytes text ≡ spec.refused_text neighbour code.now) }
 {
     let code = code_text(alloc, code)?;
-    let text = format!(in alloc; "refused neighbour={neighbour} code={code}\n")?;
-    Ok(text)
+    format!(in alloc; "refused neighbour={neighbour} code={code}\n")
 }
 
 fn reason_text(
@@ -124,39 +117,36 @@ fn reason_text(
     ensures { IfOk result (λ text. string_bytes text ≡ spec.reason_text neighbour code.now reason) }
 {
     let code = code_text(alloc, code)?;
-    let text = format!(in alloc; "refused neighbour={neighbour} code={code} reason={reason}\n")?;
-    Ok(text)
+    format!(in alloc; "refused neighbour={neighbour} code={code} reason={reason}\n")
 }
 
 fn connection_text(alloc: Global, lost: Lost, from: &str) -> Result<String, AllocError>
     ensures { IfOk result (λ text. string_bytes text ≡ spec.connection_text lost from.now) }
 {
     let from = quoted(alloc, from.as_bytes())?;
-    let text = match lost {
-        Lost::Status(status) => { format!(in alloc; "connection status={status} from={from}\n")? }
-        Lost::Cut => format!(in alloc; "connection cut from={from}\n")?,
-    };
-    Ok(text)
+    match lost {
+        Lost::Status(status) => { format!(in alloc; "connection status={status} from={from}\n") }
+        Lost::Cut => format!(in alloc; "connection cut from={from}\n"),
+    }
 }
 
 fn limit_text(alloc: Global, neighbour: usize, most: u64) -> Result<String, AllocError>
     ensures { IfOk result (λ text. string_bytes text ≡ spec.limit_text neighbour most) }
 {
-    let text = format!(in alloc; "limit neighbour={neighbour} most={most}\n")?;
-    Ok(text)
+    format!(in alloc; "limit neighbour={neighbour} most={most}\n")
 }
 
 fn waits_text(alloc: Global, blocked: Blocked) -> Result<String, AllocError>
     ensures { IfOk result (λ text. string_bytes text ≡ spec.waits_text blocked) }
 {
-    let text = match blocked {
+    match blocked {
         Blocked::Connection { max_offset: limit } => {
-            format!(in alloc; "waits at=connection-data limit={limit}\n")?
+            format!(in alloc; "waits at=connection-data limit={limit}\n")
         }
         Blocked::Data {
             stream,
             max_offset: limit,
-        } => { format!(in alloc; "waits at=stream-data stream={stream} limit={limit}\n")? }
+        } => { format!(in alloc; "waits at=stream-data stream={stream} limit={limit}\n") }
         Blocked::Money {
             stream,
             receive_max,
@@ -164,54 +154,48 @@ fn waits_text(alloc: Global, blocked: Blocked) -> Result<String, AllocError>
         } => {
             format!(in alloc;
                 "waits at=stream-money stream={stream} receive_max={receive_max} total={total}\n"
-            )?
+            )
         }
-    };
-    Ok(text)
+    }
 }
 
 fn clock_text(alloc: Global, set_back: u64) -> Result<String, AllocError>
     ensures { IfOk result (λ text. string_bytes text ≡ spec.clock_text set_back) }
 {
-    let text = format!(in alloc; "clock set_back_ms={set_back}\n")?;
-    Ok(text)
+    format!(in alloc; "clock set_back_ms={set_back}\n")
 }
 
 fn control_text(alloc: Global, line: &[u8], heard: Heard<'_>) -> Result<String, AllocError>
     ensures { IfOk result (λ text. string_bytes text ≡ spec.control_text line.now heard.entry) }
 {
     let line = quoted_short(alloc, line)?;
-    let text = match heard {
-        Heard::Done => format!(in alloc; "control line={line}\n")?,
-        Heard::Unknown => format!(in alloc; "control unknown line={line}\n")?,
+    match heard {
+        Heard::Done => format!(in alloc; "control line={line}\n"),
+        Heard::Unknown => format!(in alloc; "control unknown line={line}\n"),
         Heard::Failed(words) => {
             let words = quoted(alloc, words.as_bytes())?;
-            format!(in alloc; "control failed line={line} words={words}\n")?
+            format!(in alloc; "control failed line={line} words={words}\n")
         }
-    };
-    Ok(text)
+    }
 }
 
 fn table_text(alloc: Global, line: usize, words: &str) -> Result<String, AllocError>
     ensures { IfOk result (λ text. string_bytes text ≡ spec.table_text line words.now) }
 {
     let words = quoted(alloc, words.as_bytes())?;
-    let text = format!(in alloc; "table line={line} words={words}\n")?;
-    Ok(text)
+    format!(in alloc; "table line={line} words={words}\n")
 }
 
 fn closed_text(alloc: Global, stream: u64) -> Result<String, AllocError>
     ensures { IfOk result (λ text. string_bytes text ≡ spec.closed_text stream) }
 {
-    let text = format!(in alloc; "closed stream={stream}\n")?;
-    Ok(text)
+    format!(in alloc; "closed stream={stream}\n")
 }
 
 fn aborted_text(alloc: Global, stream: u64, code: u64) -> Result<String, AllocError>
     ensures { IfOk result (λ text. string_bytes text ≡ spec.aborted_text stream code) }
 {
-    let text = format!(in alloc; "closed stream={stream} code={code}\n")?;
-    Ok(text)
+    format!(in alloc; "closed stream={stream} code={code}\n")
 }
 
 fn end_text(alloc: Global, totals: EndTotals) -> Result<String, AllocError>
@@ -223,10 +207,9 @@ fn end_text(alloc: Global, totals: EndTotals) -> Result<String, AllocError>
         credited,
         paid,
     } = totals;
-    let text = format!(in alloc;
+    format!(in alloc;
         "totals accepted={accepted} delivered={delivered} credited={credited} paid={paid}\n"
-    )?;
-    Ok(text)
+    )
 }
 
 fn account_front(
@@ -242,10 +225,9 @@ fn account_front(
         held,
         ..
     } = totals;
-    let text = format!(in alloc;
+    format!(in alloc;
         "totals neighbour={neighbour} claims={claims} dues={dues} held={held} "
-    )?;
-    Ok(text)
+    )
 }
 
 fn account_back(alloc: Global, totals: AccountCounts) -> Result<String, AllocError>
@@ -258,10 +240,9 @@ fn account_back(alloc: Global, totals: AccountCounts) -> Result<String, AllocErr
         refused,
         ..
     } = totals;
-    let text = format!(in alloc;
+    format!(in alloc;
         "fulfilled={fulfilled} rejected={rejected} lost={lost} refused={refused}\n"
-    )?;
-    Ok(text)
+    )
 }
 
 fn account_text(
@@ -284,35 +265,31 @@ fn rejects_text(
     ensures { IfOk result (λ text. string_bytes text ≡ spec.rejects_text neighbour code.now count) }
 {
     let code = code_text(alloc, code)?;
-    let text = format!(in alloc; "totals neighbour={neighbour} code={code} rejected={count}\n")?;
-    Ok(text)
+    format!(in alloc; "totals neighbour={neighbour} code={code} rejected={count}\n")
 }
 
 fn more_text(alloc: Global, neighbour: usize, kind: Kind, count: u64) -> Result<String, AllocError>
     ensures { IfOk result (λ text. string_bytes text ≡ spec.more_text neighbour kind count) }
 {
     let word = kind.word();
-    let text = if kind.is_of_neighbour() {
-        format!(in alloc; "more neighbour={neighbour} event={word} count={count}\n")?
+    if kind.is_of_neighbour() {
+        format!(in alloc; "more neighbour={neighbour} event={word} count={count}\n")
     } else {
-        format!(in alloc; "more event={word} count={count}\n")?
-    };
-    Ok(text)
+        format!(in alloc; "more event={word} count={count}\n")
+    }
 }
 
 fn no_room_text(alloc: Global, count: u64) -> Result<String, AllocError>
     ensures { IfOk result (λ text. string_bytes text ≡ spec.no_room_text count) }
 {
-    let text = format!(in alloc; "more lost={count}\n")?;
-    Ok(text)
+    format!(in alloc; "more lost={count}\n")
 }
 
 fn failed_text(alloc: Global, fault: u8, words: &str) -> Result<String, AllocError>
     ensures { IfOk result (λ text. string_bytes text ≡ spec.failed_text fault words.now) }
 {
     let words = quoted(alloc, words.as_bytes())?;
-    let text = format!(in alloc; "end fault={fault} words={words}\n")?;
-    Ok(text)
+    format!(in alloc; "end fault={fault} words={words}\n")
 }
 
 /// What follows the date, with the newline.

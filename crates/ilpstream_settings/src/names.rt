@@ -27,8 +27,7 @@ pub(crate) fn name_of<A: Allocator + Copy>(
 fn number_text<A: Allocator + Copy>(alloc: A, number: usize) -> Result<String<A>, AllocError>
     ensures { IfOk result (λ text. string_bytes text ≡ decimal number) }
 {
-    let text = format!(in alloc; "{number}")?;
-    Ok(text)
+    format!(in alloc; "{number}")
 }
 
 /// The names of accounts, which are numbered from 0. Fails if memory is refused.

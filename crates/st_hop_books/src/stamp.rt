@@ -28,10 +28,9 @@ const AFTER_ADDRESS: usize = 12;
 fn text_of(alloc: Global, identity: &str, address: &str) -> Result<String, AllocError>
     ensures { IfOk result (λ text. string_bytes text ≡ stamp_text identity.now address.now) }
 {
-    let text = format!(in alloc;
+    format!(in alloc;
         "CREATE VIEW books AS SELECT 2 AS schema, '{identity}' AS identity, '{address}' AS address"
-    )?;
-    Ok(text)
+    )
 }
 
 /// Whether SQLite reads a text as that of the view `books`.
