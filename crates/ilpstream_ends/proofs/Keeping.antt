@@ -21,23 +21,11 @@ use Rattle.st_file.specs.declared.error.FileError.{FileError}
 use Rattle.st_file.specs.declared.error.FileError.TheVariants.{ReadFault, WriteFault, Aborted, Turns, NoMemory, Closed}
 use Rattle.st_file.proofs.Storing.{stored_more, stored_why}
 use Rattle.ilpstream_serving.specs.Answering.{Answers, IsWholeAt}
-use Rattle.ilpstream_ends.specs.Keeping.{Explains, Gives, Happens, IsOfDelivery, comes, is_read, IsUpToDate, Kept, KeptAll, KeptTo, Reads, Runs, RunsIn, file_stream, piece_limit, given_of}
+use Rattle.ilpstream_ends.specs.Keeping.{Explains, Gives, Happens, comes, is_read, IsUpToDate, Kept, KeptAll, KeptTo, Reads, Runs, RunsIn, file_stream, piece_limit, given_of}
 use Rattle.ilpstream_ends.specs.Replies.{AnswersBody, AnswersFor, IsLater, IsOpenedFor}
-use Rattle.ilpstream_serving.specs.declared.error.TransferError.{TransferError}
 use Rattle.ilpstream_serving.specs.declared.error.TransferError.TheVariants as transfer
 
 -- ---- one read
-
--- what a read that was not refused gave
-pub read_given : (a b : EndState) (got : reading.Got) → OrWants a (read a file_stream piece_limit) (Ok got, b) → Reads a got b
-read_given a b got (inl p) = sym p
-read_given a b got (inr p) = absurd (let f : ◌≡◌ {A = Result reading.Got EndError} (Ok got) (Err refusals.NoMemory) = ap (λ q. q.0) p.1 in cc)
-
-pub gives_of : (a b : EndState) (got : reading.Got) → Reads a got b → Gives a got b
-gives_of a b (reading.Bytes out) r = r
-gives_of a b reading.Nothing r = inl r
-gives_of a b reading.End r = r
-gives_of a b (reading.Aborted code) r = r
 
 refused_by : (t : Bool) (a b c : EndState) (got : reading.Got) (e : EndError) → ◌≡◌ {A = Result reading.Got EndError × EndState} (Err e, b) (if t then (Ok got, c) else (Err refusals.NoStream, a)) → e ≡ refusals.NoStream
 refused_by true a b c got e h = absurd (let f : ◌≡◌ {A = Result reading.Got EndError} (Err e) (Ok got) = ap (λ q. q.0) h in cc)
@@ -51,11 +39,6 @@ read_refused a b e (inr p) = inr (let f : ◌≡◌ {A = Result reading.Got EndE
 closed_by : (t : Bool) (a b c : EndState) (got : reading.Got) → ◌≡◌ {A = Result reading.Got EndError × EndState} (Err refusals.NoStream, b) (if t then (Ok got, c) else (Err refusals.NoStream, a)) → t ≡ false
 closed_by true a b c got h = absurd (let f : ◌≡◌ {A = Result reading.Got EndError} (Err refusals.NoStream) (Ok got) = ap (λ q. q.0) h in cc)
 closed_by false a b c got h = refl
-
--- if it is refused for no stream, there is none
-pub read_closed : (a b : EndState) → OrWants a (read a file_stream piece_limit) (Err refusals.NoStream, b) → is_open a.receiving file_stream ≡ false
-read_closed a b (inl p) = closed_by (is_open a.receiving file_stream) a b _ _ p
-read_closed a b (inr p) = absurd (let f : ◌≡◌ {A = Result reading.Got EndError} (Err refusals.NoStream) (Err refusals.NoMemory) = ap (λ q. q.0) p.1 in cc)
 
 -- ---- runs
 
@@ -186,7 +169,3 @@ pub kept_answered : (start now next : EndState) (before after : Option (List ℕ
 kept_answered start now next before after n bytes (Some answer) k (inl h) = kept_on start now next before after n k (comes bytes h.0 h.1 refl)
 kept_answered start now next before after n bytes (Some answer) k (inr h) = rw h.1 k
 kept_answered start now next before after n bytes None k h = rw h k
-
--- a fault of the delivery differs from each one that is not of the delivery
-pub other_fault : (e x : TransferError) (Q : Type 0) → IsOfDelivery e → (IsOfDelivery x → Q) → ◌≡◌ {A = Result ℕ TransferError} (Err e) (Err x) → Q
-other_fault e x Q is none same = let inside : e ≡ x = cc in none (subst IsOfDelivery inside is)

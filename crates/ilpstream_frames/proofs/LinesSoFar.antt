@@ -102,14 +102,6 @@ stands_with_digits s line bs e hex ne h =
     let is : HasShape s.shape (with_digits bs s) (line ++ bs) = subst (λ (y : Shape). HasShape y (with_digits bs s) (line ++ bs)) (sym e) more in
     record { one_line = All-append (λ x. (x == 10) ≡ false) line bs h.one_line ne; shape = is }
 
--- a line of no digits and nothing else
-pub no_bytes_yet : (s : LineState) (line : List ℕ) → s.shape ≡ shape.Digits → s.count ≡ 0 → StandsFor s line → line ≡ []
-no_bytes_yet s line e none h = none_of line (sym (in_shape s line shape.Digits e h).count ∙ none)
-  where
-    none_of : (l : List ℕ) → length l ≡ 0 → l ≡ []
-    none_of [] e = refl
-    none_of (b ∷ l) e = absurd (omega arith)
-
 spoiled_more : (line : List ℕ) (b : ℕ) → IsSpoiled line → IsSpoiled (line ++ b ∷ [])
 spoiled_more line b h =
     let same : slice_index (line ++ b ∷ []) h.place ≡ slice_index line h.place = get_or_append_left line (b ∷ []) 0 h.place h.within in
@@ -178,22 +170,9 @@ strip-digits (b ∷ text) h = elim (cases_eq (slice_index (b ∷ text) (length (
   | inr other ↦ grind (arith, common_steps, other)
 ]
 
-strip-return : (text : List ℕ) → strip_carriage_return (text ++ 13 ∷ []) ≡ text
-strip-return text =
-    let n : length (text ++ 13 ∷ []) ≡ length text + 1 = length-append text (13 ∷ []) in
-    let last : slice_index (text ++ 13 ∷ []) (length (text ++ 13 ∷ []) - 1) ≡ 13 = ap (slice_index (text ++ 13 ∷ [])) (omega (arith, n)) ∙ get_or-append_seam text 13 [] 0 in
-    let front : take (length (text ++ 13 ∷ []) - 1) (text ++ 13 ∷ []) ≡ text =
-    ap (λ k. take k (text ++ 13 ∷ [])) (omega (arith, n)) ∙ (take-append-le (length text) text (13 ∷ []) (omega arith) ∙ take_all (length text) text (omega arith)) in
-    rw last front
-
 pub digits_of_text : (s : LineState) (line : List ℕ) (end : LineEnd) → s.shape ≡ shape.Digits → StandsFor s line → AreDigits s (text_of_line end line)
 digits_of_text s line Newline e h = let digits = in_shape s line shape.Digits e h in rw (strip-digits line digits.hex) digits
 digits_of_text s line InputEnd e h = in_shape s line shape.Digits e h
-
-pub digits_before_return : (s : LineState) (line : List ℕ) → s.shape ≡ shape.DigitsAndReturn → StandsFor s line → AreDigits s (strip_carriage_return line)
-digits_before_return s line e h =
-    let had = in_shape s line shape.DigitsAndReturn e h in
-    rw (had.1, strip-return had.0) had.2
 
 pub other_at_end : (s : LineState) (line : List ℕ) → s.shape ≡ shape.DigitsAndReturn → StandsFor s line → HasOther line
 other_at_end s line e h =

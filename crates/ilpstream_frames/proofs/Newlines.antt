@@ -1,9 +1,8 @@
 -- The place of the first newline.
-use Rattle.std.proofs.Common.{◌≡◌, ◌<◌, ◌≤◌, ℕ, ◌+◌, ◌==◌, Bool, true, false, refl, List, [], ◌∷◌, ◌++◌, length, take, get_or, slice_index, ap, ◌∙◌, arith}
+use Rattle.std.proofs.Common.{◌≡◌, ◌<◌, ℕ, ◌+◌, ◌==◌, Bool, true, false, refl, List, [], ◌∷◌, ◌++◌, length, take, get_or, slice_index, ap, ◌∙◌, arith}
 use Rattle.std.specs.List.{All}
 use Rattle.std.proofs.lemmas.Bool.{eqb-true}
-use Rattle.std.proofs.lemmas.List.{get_or_default, get_or-take, take_more}
-use Rattle.std.proofs.Math.Seq.{length-take-le}
+use Rattle.std.proofs.lemmas.List.{get_or_default, take_more}
 use Rattle.memchr.specs.Find.{Nowhere, Passes, is_byte}
 
 -- a byte that is not a newline, as a test
@@ -13,13 +12,6 @@ not_newline b h = by_test (b == 10) h
     by_test : (t : Bool) → (t ≡ true → ⊥) → t ≡ false
     by_test true wrong = absurd (wrong refl)
     by_test false wrong = refl
-
--- there is no newline before place k
-pub clean_before : (hay : List ℕ) (k : ℕ) → k ≤ length hay → Nowhere (Passes (is_byte 10) hay) 0 k → All (λ b. (b == 10) ≡ false) (take k hay)
-clean_before hay k le none = λ i d lt.
-    let below : i < k = omega (arith, lt, length-take-le k hay le) in
-    let same : get_or (take k hay) i d ≡ slice_index hay i = get_or-take k hay i d below ∙ get_or_default hay i d 0 (omega (arith, below, le)) in
-    rw same (not_newline (slice_index hay i) (none i (omega arith) below))
 
 -- there is no newline anywhere
 pub clean : (hay : List ℕ) → Nowhere (Passes (is_byte 10) hay) 0 (length hay) → All (λ b. (b == 10) ≡ false) hay

@@ -11,12 +11,6 @@ use Rattle.ilpstream_frames.specs.Inboxes.{Inboxes, opening, is_stream, after_pi
 use Rattle.ilpstream_frames.specs.declared.error.LineError.TheVariants.{Inbox}
 use Rattle.ilpstream_frames.specs.Drafts.{over}
 
-pub length-over : (ds ss : Inboxes) → length ds ≡ length ss → length (over ds ss) ≡ length ss
-length-over [] [] h = refl
-length-over [] (s ∷ ss) h = absurd (omega arith)
-length-over (d ∷ ds) [] h = refl
-length-over (d ∷ ds) (s ∷ ss) h = let rest : length (over ds ss) ≡ length ss = length-over ds ss (omega arith) in omega (arith, rest)
-
 pub get-over : (ds ss : Inboxes) (i : ℕ) → length ds ≡ length ss → get_or (over ds ss) i None ≡ option_or (get_or ds i None) (get_or ss i None)
 get-over [] [] i h = refl
 get-over [] (s ∷ ss) i h = absurd (omega arith)

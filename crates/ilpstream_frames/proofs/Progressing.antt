@@ -78,19 +78,6 @@ answers_line s t l (Some e) effect next noted = elim effect.2 [
   | inr wanting ↦ subst (λ (x : LineError). AnswersLine s l (line_text s.index x) t) (sym wanting.1) (answers_no_memory s t l effect.0 effect.1 wanting.0 next noted)
 ]
 
--- bytes within a line
-pub answers_part : (s t : State) (bytes : List ℕ) → t.index ≡ s.index → t.inboxes ≡ s.inboxes → t.refused ≡ s.refused
-    → ((line : List ℕ) → StandsFor s.line line → StandsFor t.line (line ++ bytes)) → AnswersPiece s bytes [] t
-answers_part s t bytes index inboxes flag stays = λ line stands. (
-  line ++ bytes,
-  stays line stands,
-  λ left text any f.
-      let same : (line ++ bytes) ++ left ≡ line ++ (bytes ++ left) = append_assoc line bytes left in
-      let answered = rw (index, inboxes, same) at f.1 in
-      let flags = rw flag at f.2 in
-      (f.0, answered, flags),
-)
-
 -- a newline
 pub answers_newline : (s t : State) (said : List ℕ) → t.line ≡ no_line → ((line : List ℕ) → StandsFor s.line line → AnswersLine s (strip_carriage_return line) said t) → AnswersPiece s (10 ∷ []) said t
 answers_newline s t said fresh answers = λ line stands. (
@@ -399,6 +386,3 @@ answers_all_as input before now after s streams flag same is h put =
 take-zero : (xs : List ℕ) → take 0 xs ≡ []
 take-zero [] = refl
 take-zero (x ∷ xs) = refl
-
-pub take-none : (n : ℕ) (xs : List ℕ) → n ≡ 0 → take n xs ≡ []
-take-none n xs e = rw e (take-zero xs)

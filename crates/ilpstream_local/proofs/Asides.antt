@@ -196,10 +196,3 @@ write_called w v k xs a h = elim h.1 [
       subst (λ (b : Answer). P b v) (sym same) (subst (P r.0) (sym met.1) (wrote_by r.0 (with_end w Client r.1) k xs))
   | inr lacks ↦ absurd (let no : Call a ≡ NoMemory = lacks.1 in cc)
 ]
-
--- a write with any result other than an answer ran out of memory
-pub write_lacked : (w v : World) (k : ℕ) (xs : List ℕ) (told : Told) → ((a : Answer) → told ≢ Call a) → Happens w (Write Client k xs) told v → (j : ℕ) → written_on v j ≡ written_on w j
-write_lacked w v k xs told none h = elim h.1 [
-  | inl met ↦ absurd (none _ met.0)
-  | inr lacks ↦ kept_by w v (same_at w _ v lacks.3 (refuses_same w (Write Client k xs) lacks.0 lacks.2))
-]

@@ -1,8 +1,7 @@
 -- Parts of an input, and what of them is among its first bytes.
-use Rattle.std.proofs.Common.{◌≡◌, ◌≢◌, ℕ, zero, suc, ◌+◌, ◌-◌, ◌*◌, ◌<◌, ◌≤◌, List, [], ◌++◌, length, take, drop, sym, ap, ◌∙◌, inl, inr, arith, mul-le-mul_right, suc-mul, zero-mul, mul_comm, mod-lt, ◌%◌, div-mul-le_self, div-add-mod'}
+use Rattle.std.proofs.Common.{◌≡◌, ◌≢◌, ℕ, zero, suc, ◌+◌, ◌-◌, ◌*◌, ◌<◌, ◌≤◌, List, [], ◌++◌, length, take, drop, sym, ap, ◌∙◌, inl, inr, arith, mul-le-mul_right, suc-mul, zero-mul, mod-lt, ◌%◌, div-add-mod'}
 use Rattle.std.specs.Prelude.{min, ◌/◌}
 use Rattle.std.proofs.Math.Seq.{take-add}
-use Rattle.std.proofs.Math.Nat.{lt_of_mul-lt-mul_right}
 use Rattle.std.proofs.lemmas.Grind.{div_ceil_times}
 use Rattle.std.proofs.lemmas.Bool.{cases_lt}
 use Rattle.std.proofs.lemmas.List.{take_all, take_min, length-drop, drop-drop}
@@ -63,14 +62,6 @@ has_size bytes parts some within =
       | inl size ↦ size
       | inr none ↦ let zero-size : part_size bytes parts ≡ 0 = omega (arith, none) in absurd (let no : part_size bytes parts * parts ≡ 0 = ap (λ n. n * parts) zero-size ∙ zero-mul parts in omega (arith, enough, no, within))
     ]
-
-pub is_place : (bytes parts sent : ℕ) → 0 < parts → sent < bytes → sent / part_size bytes parts < parts
-is_place bytes parts sent some within =
-    let enough = (div_ceil_times bytes parts some).0 in
-    let size = part_size bytes parts in
-    let from : sent / size * size ≤ sent = div-mul-le_self sent size in
-    let turned : size * parts ≡ parts * size = mul_comm size parts in
-    lt_of_mul-lt-mul_right size (omega (arith, enough, from, turned, within))
 
 -- a chunk that stays within its part
 pub stays_within : (sent size count : ℕ) → 0 < size → count ≤ size - sent % size → sent + count ≤ sent / size * size + size

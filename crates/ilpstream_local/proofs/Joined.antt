@@ -2,7 +2,7 @@
 use Rattle.std.proofs.Common.{◌≡◌, ℕ, zero, suc, ◌+◌, ◌<◌, ◌≤◌, List, [], ◌++◌, length, take, refl, sym, ap, subst, ◌∙◌, inl, inr, arith, add-one, append_assoc}
 use Rattle.std.specs.Prelude.{Option, min}
 use Rattle.std.specs.Io.KnownBytes.{Appends}
-use Rattle.std.proofs.KnownBytes.{Appends-nil, Appends-trans}
+use Rattle.std.proofs.KnownBytes.{Appends-trans}
 use Rattle.std.proofs.lemmas.Bool.{cases_lt}
 use Rattle.std.proofs.lemmas.List.{append-nil, take_all, take_min, take-append-le}
 use Rattle.std.proofs.Math.Seq.{take-append-add}
@@ -42,9 +42,6 @@ writes_part f i n before now after l had part =
     let split : joined f n ≡ joined f i ++ (f i ++ all.0) = all.1 ∙ (ap (λ xs. xs ++ all.0) (joined_next f i) ∙ append_assoc (joined f i) (f i) all.0) in
     let taken : take (length (joined f i) + min part.0 (length (f i))) (joined f n) ≡ joined f i ++ take part.0 (f i) = ap (λ xs. take (length (joined f i) + min part.0 (length (f i))) xs) split ∙ take_past (joined f i) (f i) all.0 part.0 in
     (length (joined f i) + min part.0 (length (f i)), subst (Appends before after) (sym taken) (Appends-trans before now after (joined f i) (take part.0 (f i)) had part.1))
-
-pub nothing_part : (xs : List ℕ) (a : Option (List ℕ)) → WritesPart xs a a
-nothing_part xs a = (0, Appends-nil a)
 
 pub part_of_whole : (f : ℕ → List ℕ) (i n : ℕ) (before now : Option (List ℕ)) → i ≡ n → Appends before now (joined f i) → WritesPart (joined f n) before now
 part_of_whole f i n before now same whole =

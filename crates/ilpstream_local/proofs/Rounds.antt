@@ -1,20 +1,17 @@
 -- Events one after another, and the parts of a schedule by one more at their end.
-use Rattle.std.proofs.Common.{◌≡◌, ℕ, zero, suc, ◌+◌, ◌-◌, ◌*◌, ◌<◌, ◌≤◌, Bool, true, false, List, [], ◌∷◌, ◌++◌, length, min, refl, sym, ap, subst, ◌∙◌, inl, inr, arith, length-append, ℤ, pos, cond}
-use Rattle.std.specs.Prelude.{◌⊎◌, MatchBool}
+use Rattle.std.proofs.Common.{◌≡◌, ℕ, zero, suc, ◌+◌, ◌-◌, ◌<◌, ◌≤◌, Bool, true, false, List, [], ◌∷◌, ◌++◌, refl, sym, ap, subst, ◌∙◌, inl, inr, arith, length-append, ℤ, pos, cond}
+use Rattle.std.specs.Prelude.{MatchBool}
 use Rattle.std.specs.List.{AllByRecursion}
 use Rattle.std.proofs.lemmas.Bool.{cases_lt}
 use Rattle.ilpstream_settings.specs.declared.settings.LocalSettings.{LocalSettings}
-use Rattle.st_world_parts.specs.Sides.{Side, Client, Server}
+use Rattle.st_world_parts.specs.Sides.{Side, Server}
 use Rattle.st_world_parts.specs.State.{World}
-use Rattle.st_world_parts.specs.Events.{Event, Write, Send, Arrive, AnswerArrives, Fault, Told, NoMemory}
+use Rattle.st_world_parts.specs.Events.{Event, Send, Arrive, Told}
 use Rattle.st_world.specs.Steps.{Happens}
 use Rattle.st_world.specs.Runs.{Run}
 use Rattle.st_world.specs.Left.{lacks}
-use Rattle.st_world.proofs.Reached.{run_more}
-use Rattle.ilpstream_local.specs.declared.chain.Counts.{Counts}
-use Rattle.ilpstream_local.specs.Parts.{stream_at}
 use Rattle.ilpstream_local.specs.Playing.{Played, is_lost}
-use Rattle.ilpstream_local.specs.Schedule.{AreWhole, Begins, BeginsCrossing, BeginsEach, BeginsRound, BeginsToClose, BeginsToGo, BeginsToRead, Closes, Crosses, Goes, GoesOn, IsAt, IsCounted, IsIdle, IsSent, IsWhole, IsWrite, Reach, Reads, ReadsOne, Takes, TakesWrites, Tells, answer, arrival, arrived, closing, each, fault_at, is_sent, iv_of, link_of, number_on, reading, sending}
+use Rattle.ilpstream_local.specs.Schedule.{AreWhole, Begins, BeginsCrossing, BeginsEach, BeginsToClose, BeginsToGo, Crosses, Goes, GoesOn, IsAt, IsIdle, IsSent, IsWhole, IsWrite, Reach, Reads, ReadsOne, Takes, TakesWrites, Tells, answer, arrival, arrived, closing, each, fault_at, is_sent, iv_of, link_of, number_on, sending}
 
 -- ---- events, one after another
 
@@ -96,10 +93,6 @@ pub arrival_is : (side : Side) (hops first number before link which : ℕ) (now 
 arrival_is side hops first number before link which now e f at =
     ap (λ (l : ℕ). Arrive l side which now) e ∙ (ap (λ (k : ℕ). Arrive (link_of side hops before) side k now) f ∙ ap (λ (t : ℤ). Arrive (link_of side hops before) side (number_on first number before) t) at)
 
-pub answer_is : (side : Side) (hops number after from link : ℕ) (now : ℤ) → link ≡ link_of side hops from → from ≡ hops - after → now ≡ pos 0 → AnswerArrives link side number now ≡ answer side hops number after
-answer_is side hops number after from link now e f at =
-    ap (λ (l : ℕ). AnswerArrives l side number now) (e ∙ ap (link_of side hops) f) ∙ ap (λ (t : ℤ). AnswerArrives (link_of side hops (hops - after)) side number t) at
-
 pub crosses_then : (side : Side) (first number : ℕ) (p m q : Played) → Takes (each (arrival side p.asked.hops first number) (p.asked.hops + 1)) p m
     → Takes (each (answer side m.asked.hops number) (m.asked.hops + 1)) m q → Crosses side first number p q
 crosses_then side first number p m q a b = (m, a, subst (λ (s : LocalSettings). Takes (each (answer side s.hops number) (s.hops + 1)) m q) a.asked b)
@@ -108,16 +101,10 @@ pub crossing_then : (side : Side) (first number : ℕ) (p m q : Played) → Take
     → BeginsEach (answer side m.asked.hops number) (m.asked.hops + 1) m q → BeginsCrossing side first number p q
 crossing_then side first number p m q a b = inr (m, a, subst (λ (s : LocalSettings). BeginsEach (answer side s.hops number) (s.hops + 1) m q) a.asked b)
 
-pub goes_lost : (side : Side) (k : ℕ) (p q : Played) → is_lost side p.asked.lose k ≡ true → Takes (fault_at side k ∷ []) p q → Goes side k p q
-goes_lost side k p q is h = subst (λ (b : Bool). MatchBool b (Takes (fault_at side k ∷ []) p q) (Crosses side k (arrived side p.asked.lose k) p q)) (sym is) h
-
 pub goes_on : (side : Side) (k number : ℕ) (p q : Played) → is_lost side p.asked.lose k ≡ false → number ≡ arrived side p.asked.lose k → Crosses side k number p q → Goes side k p q
 goes_on side k number p q is same h =
     subst (λ (b : Bool). MatchBool b (Takes (fault_at side k ∷ []) p q) (Crosses side k (arrived side p.asked.lose k) p q)) (sym is)
     (subst (λ (n : ℕ). Crosses side k n p q) same h)
-
-pub begins_lost : (side : Side) (k : ℕ) (p q : Played) → is_lost side p.asked.lose k ≡ true → Begins (fault_at side k) p q → BeginsToGo side k p q
-begins_lost side k p q is h = subst (λ (b : Bool). MatchBool b (Begins (fault_at side k) p q) (BeginsCrossing side k (arrived side p.asked.lose k) p q)) (sym is) h
 
 pub begins_on : (side : Side) (k number : ℕ) (p q : Played) → is_lost side p.asked.lose k ≡ false → number ≡ arrived side p.asked.lose k → BeginsCrossing side k number p q → BeginsToGo side k p q
 begins_on side k number p q is same h =
@@ -125,11 +112,6 @@ begins_on side k number p q is same h =
     (subst (λ (n : ℕ). BeginsCrossing side k n p q) same h)
 
 -- ---- how many are not lost
-
-pub arrived_lost : (side : Side) (lose k : ℕ) → is_lost side lose (k + 1) ≡ true → arrived side lose (k + 1) ≡ arrived side lose k
-arrived_lost side lose k is =
-    let next : k + 1 ≡ suc k = omega arith in
-    ap (arrived side lose) next ∙ ap (λ (b : Bool). cond b (arrived side lose k) (suc (arrived side lose k))) (subst (λ (n : ℕ). is_lost side lose n ≡ true) next is)
 
 pub arrived_more : (side : Side) (lose k : ℕ) → is_lost side lose (k + 1) ≡ false → arrived side lose (k + 1) ≡ arrived side lose k + 1
 arrived_more side lose k is =
@@ -150,13 +132,6 @@ pub arrived_all : (lose k : ℕ) → k ≡ arrived Server lose k
 arrived_all lose zero = refl
 arrived_all lose (suc k) = ap suc (arrived_all lose k)
 
-pub counted_later : (p q : Played) (c : Counts) → q.asked ≡ p.asked → p.events ≤ q.events → IsCounted p.asked.lose p.events c → IsCounted q.asked.lose q.events c
-counted_later p q c asked more h = record {
-  answered = subst (λ (s : LocalSettings). c.answered ≡ arrived Client s.lose c.sent) (sym asked) h.answered;
-  sent = omega (arith, more, h.sent);
-  returned = omega (arith, more, h.returned);
-}
-
 -- ---- writes, closes and reads
 
 all_append : (xs ys : List Event) → AllByRecursion IsWrite xs → AllByRecursion IsWrite ys → AllByRecursion IsWrite (xs ++ ys)
@@ -165,12 +140,6 @@ all_append (x ∷ xs) ys a b = (a.0, all_append xs ys a.1 b)
 
 pub writes_none : (p : Played) → TakesWrites p p
 writes_none p = ([], tt, takes_none p)
-
-pub writes_begun : (k : ℕ) (bytes : List ℕ) (p q : Played) → Begins (Write Client k bytes) p q → TakesWrites p q
-writes_begun k bytes p q h = elim h [
-  | inl none ↦ ([], tt, none)
-  | inr one ↦ (Write Client k bytes ∷ [], (tt, tt), one)
-]
 
 pub writes_then : (p q r : Played) → TakesWrites p q → TakesWrites q r → TakesWrites p r
 writes_then p q r a b = (a.0 ++ b.0, all_append a.0 b.0 a.1 b.1, takes_then a.0 b.0 p q r a.2 b.2)

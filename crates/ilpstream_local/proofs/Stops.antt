@@ -147,9 +147,6 @@ turns_carry (Err e) asked input left h = carry_turns asked input left e h
 
 -- ---- I/O calls
 
-pub reads_alone : (r s w : Tally) (a b : ℕ) → TakesTurns r s a b → SpendsTurns r s w w a b
-reads_alone r s w a b h = (a - b, 0, omega (arith, h.fewer), h.calls, omega arith)
-
 pub reads_and_writes : (r s w v : Tally) (a b c : ℕ) → TakesTurns r s a b → TakesTurns w v b c → SpendsTurns r s w v a c
 reads_and_writes r s w v a b c h k = (a - b, b - c, omega (arith, h.fewer, k.fewer), h.calls, k.calls)
 

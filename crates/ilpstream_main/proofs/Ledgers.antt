@@ -1,41 +1,23 @@
 -- How the command `ledger` may end.
-use Rattle.std.proofs.Common.{◌≡◌, ◌≢◌, ℕ, ◌-◌, List, Option, Some, None, false, refl, sym, ap, subst, ◌∙◌}
+use Rattle.std.proofs.Common.{◌≡◌, ℕ, List, Option, Some, None, false, refl, sym, ap, subst, ◌∙◌}
 use Rattle.std.specs.Io.KnownBytes.{Appends}
 use Rattle.std.specs.Prelude.{Bool, IfErr, IsErrAnd, OnOk, Result, Ok, Err, option_map}
 use Rattle.sqlite_trees.specs.declared.store.Store.{Ghosts}
-use Rattle.st_devices.specs.Faults.{count_after}
-use Rattle.st_devices.specs.Tallies.{TakesTurns, device_of, tally_of}
+use Rattle.st_devices.specs.Tallies.{device_of, tally_of}
 use Rattle.st_devices.specs.declared.counted.Counting.{Counting}
-use Rattle.st_devices.specs.declared.tally.Tally.{Tally}
 use Rattle.st_hop_books.specs.declared.balance.Amounts.{Amounts}
 use Rattle.st_hop_books.specs.declared.balance.Entry.{Entry}
 use Rattle.st_links.specs.declared.side.BalanceSide.{BalanceSide}
 use Rattle.st_hop_books.specs.Standing.{Kept}
-use Rattle.ilpstream_output.specs.Endings.{most_turns, writer_faults}
 use Rattle.ilpstream_output.specs.declared.error.Fault.{Fault}
-use Rattle.ilpstream_output.specs.declared.error.Fault.TheVariants as fault
 use Rattle.ilpstream_settings.specs.declared.ledger.Payment.{Payment}
 use Rattle.ilpstream_ledger.specs.declared.error.LedgerError.{LedgerError}
 use Rattle.ilpstream_ledger.specs.Names.{amounts_of}
 use Rattle.ilpstream_ledger.specs.Placing.{IsLate}
-use Rattle.ilpstream_ledger.specs.Settling.{IsOnce, IsSettled}
-use Rattle.ilpstream_ledger.specs.Texts.{account_text}
-use Rattle.ilpstream_main.specs.Ledger.{EndsLedger, FailsToWrite, IsPrinted, IsPrintedAlone, IsPrintedAs, IsPrintedOnce, PrintsLedger, once_text}
+use Rattle.ilpstream_ledger.specs.Settling.{IsOnce}
+use Rattle.ilpstream_main.specs.Ledger.{EndsLedger, FailsToWrite, IsPrinted, IsPrintedAs, IsPrintedOnce, PrintsLedger, once_text}
 use Rattle.ilpstream_net.specs.declared.error.RunError.{RunError}
 use Rattle.ilpstream_net.specs.declared.error.RunError.TheVariants as run
-
--- a text that was not written
-pub fails_to_write : (x : Fault) (w v : Tally) (left : ℕ) → x ≢ fault.Input → x ≢ fault.NoMemory → v.faults ≡ writer_faults (Some x) w.faults → TakesTurns w v most_turns left → (x ≡ fault.Turns → left ≡ 0)
-    → FailsToWrite x w v
-fails_to_write fault.Input w v left input memory faults turns none = absurd (input refl)
-fails_to_write fault.NoMemory w v left input memory faults turns none = absurd (memory refl)
-fails_to_write fault.Output w v left input memory faults turns none = faults
-fails_to_write fault.Turns w v left input memory faults turns none = turns.calls ∙ ap (λ (n : ℕ). count_after (most_turns - n) w.calls) (none refl)
-
--- the line of an account of which a payment was booked
-pub printed_alone : {S : Type 0} (g : Ghosts S) (name : List ℕ) (side : BalanceSide) (amount : ℕ) (old new : Kept S) (moment : ℕ) (left : Amounts) (text : List ℕ) → IsSettled g old name side amount moment new
-    → left ≡ amounts_of new.names new.amounts name → text ≡ account_text name left → IsPrintedAlone g name side amount old new text
-printed_alone g name side amount old new moment left text settled told line = ((moment, settled), line ∙ ap (account_text name) told)
 
 -- and of one that was booked under a reference
 pub printed_once : {S : Type 0} (g : Ghosts S) (repeated : Bool) (name : List ℕ) (side : BalanceSide) (entry : Entry) (reference : List ℕ) (old new : Kept S) (moment : ℕ) (left : Amounts) (text : List ℕ)

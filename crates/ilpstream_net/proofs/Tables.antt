@@ -11,7 +11,7 @@ use Rattle.ilpstream_output.specs.declared.error.Fault.{Fault}
 use Rattle.ilpstream_output.specs.declared.error.Fault.TheVariants as fault
 use Rattle.ilpstream_net.specs.Input.{FailsToRead}
 use Rattle.ilpstream_net.specs.Restored.{IsOfBooks}
-use Rattle.ilpstream_net.specs.Table.{EndsBy, EndsByTable, GoesOn, HasTable, LacksTable, Lives, SaysTable, Serves, WhyNoHop, WhyNoTable, is_hop, later}
+use Rattle.ilpstream_net.specs.Table.{EndsBy, EndsByTable, GoesOn, HasTable, LacksTable, Lives, SaysTable, Serves, WhyNoTable, is_hop, later}
 
 -- what holds of the bytes that were read holds of the input
 said_of : (input : Option (List ℕ)) (bytes : List ℕ) (P : List ℕ → Type 0) → IfSome input (λ all. bytes ≡ all) → P bytes → IfSome input P
@@ -115,17 +115,6 @@ pub no_memory : (T : Type 0) (table : Option (Bor (List ℕ))) (own : List ℕ) 
     → EndsByTable {T = T} table own ledger input r s Q (Err (run.Fault fault.NoMemory))
 no_memory T None own ledger input r s Q q = inl (inl tt)
 no_memory T (Some file) own ledger input r s Q q = (q, inr ([], inl refl))
-
--- what gives no hop ends the connector
-pub no_hop : (T : Type 0) (own : List ℕ) (ledger : Option (Bor (List ℕ))) (xs : List AccountLine) (rs : List Route) (x : RunError) → WhyNoHop own xs rs x → Serves {T = T} own ledger xs rs (Err x)
-no_hop T own ledger xs rs (run.Fault x) why = why
-no_hop T own ledger xs rs run.NoRandom why = why
-no_hop T own ledger xs rs run.NoListener why = absurd why
-no_hop T own ledger xs rs run.NoHop why = why
-no_hop T own ledger xs rs run.BadTable why = why
-no_hop T own ledger xs rs run.BadOption why = why
-no_hop T own ledger xs rs (run.Transfer e) why = absurd why
-no_hop T own ledger xs rs (run.Ledger e) why = absurd why
 
 -- and so do books that cannot be opened
 pub no_books : (T : Type 0) (own : List ℕ) (ledger : Option (Bor (List ℕ))) (xs : List AccountLine) (rs : List Route) (x : RunError)

@@ -15,21 +15,18 @@ use Rattle.st_frames.specs.Frames.{Known, Packet, frames_of, CloseFrame, Connect
 use Rattle.st_keys.specs.Keys.{DerivedKeys}
 use Rattle.st_keys.specs.Sealed.{opened}
 use Rattle.st_keys.specs.declared.error.KeyError.{KeyError}
-use Rattle.st_sender.specs.Sending.{Outgoing, SentFrame, Data, Whole, Flight, Config, Sending, new_sending, new_outgoing, with_outgoing, changed_at, changed}
+use Rattle.st_sender.specs.Sending.{Outgoing, SentFrame, Data, Whole, Flight, Config, Sending, new_sending, changed_at, changed}
 use Rattle.st_sender.specs.Flights.{flight_at, without_flight}
 use Rattle.st_sender.specs.Answering.{after_acked, after_all_acked, landed, after_fulfilled, after_failed, Failure, Plain, after_told, after_all_told}
-use Rattle.st_streams.specs.Numbers.{IsStreamNumber}
-use Rattle.st_receiver.specs.Streams as incoming
-use Rattle.st_receiver.specs.Streams.{Receiving, new_receiving, opened_stream}
-use Rattle.st_receiver.specs.Reading.{after_got}
+use Rattle.st_receiver.specs.Streams.{Receiving, new_receiving}
 use Rattle.st_end.specs.declared.flight.Open.{Open}
 use Rattle.st_end.specs.State.{EndState}
 use Rattle.st_end.specs.Sending.{is_kept, open_flight, is_open}
 use Rattle.st_end.specs.Unsealed.{known_if, known}
 use Rattle.st_end.specs.Answers.{fits, raised, failure_of, answered_by, outcome_left, after_outcome, ended_with, ended}
 use Rattle.st_end.specs.Lawful.{IsLawful}
-use Rattle.st_end.proofs.Streams.{sends, receives, joined, alike, sends_stay, opens_both, got_receives}
-use Rattle.st_end.proofs.Numbered.{AreNumbered, numbered_as, numbered_when_new, numbered_with}
+use Rattle.st_end.proofs.Streams.{sends, receives, joined, alike, sends_stay}
+use Rattle.st_end.proofs.Numbered.{AreNumbered, numbered_as, numbered_when_new}
 
 none_in_empty : (n : ℕ) → is_some (map.get (map.empty {X = List ℕ} {R = nat_cmp}) n) ≡ false
 none_in_empty n = ap is_some (map.get-empty nat_cmp n)
@@ -68,16 +65,6 @@ lawful_changed e s k f is l =
 
 pub lawful_received : (e : EndState) (r : Receiving) → receives r ≡ receives e.receiving → r.parity ≡ e.receiving.parity → IsLawful e → IsLawful (record e { receiving = r })
 lawful_received e r same parity l = lawful_as e e.sending r refl (same ∙ both_open e l) l.numbers parity l
-
--- a stream that is read
-pub lawful_got : (e : EndState) (r : Receiving) (k limit : ℕ) → r ≡ after_got e.receiving k limit → incoming.is_open e.receiving k ≡ true → IsLawful e → IsLawful (record e { receiving = r })
-lawful_got e r k limit a on l = lawful_received e r (ap receives a ∙ got_receives e.receiving k limit on) (ap (λ (x : Receiving). x.parity) a) l
-
--- a stream that opens
-pub lawful_opened : (e : EndState) (s : Sending) (r : Receiving) (k : ℕ) → s ≡ with_outgoing e.sending k new_outgoing → r ≡ opened_stream e.receiving k → IsStreamNumber k → IsLawful e → IsLawful (record e { sending = s; receiving = r })
-lawful_opened e s r k a b number l =
-    lawful_as e s r (ap (λ (x : Sending). x.flights) a) (ap receives b ∙ opens_both e.sending e.receiving k (both_open e l) ∙ sym (ap sends a))
-    (subst AreNumbered (sym a) (numbered_with e.sending k number l.numbers)) (ap (λ (x : Receiving). x.parity) b) l
 
 -- ---- what answers and advertised limits do not change
 
@@ -220,9 +207,6 @@ open_found e flight h = found_if e flight (is_kept flight.condition (map.get e.c
 
 pub ended_is : (e : EndState) (flight : Open) (o : Option (List ℕ)) (p : Flight) → open_flight e flight ≡ Some p → ended e flight o ≡ after_outcome e flight p o
 ended_is e flight o p h = ap (λ x. ended_with e flight x o) h
-
-pub ended_lawful : (e : EndState) (flight : Open) (o : Option (List ℕ)) → is_open e flight ≡ true → IsLawful e → IsLawful (ended e flight o)
-ended_lawful e flight o h l = let f = open_found e flight h in subst IsLawful (sym (ended_is e flight o f.carried f.is)) (lawful_after e flight f.carried o f.at l)
 
 same_kept : (e f : EndState) → f.sending ≡ e.sending → f.conditions ≡ e.conditions → ((n : ℕ) → is_some (map.get e.conditions n) ≡ true → is_some (flight_at e.sending.flights n) ≡ true)
     → (n : ℕ) → is_some (map.get f.conditions n) ≡ true → is_some (flight_at f.sending.flights n) ≡ true

@@ -1,12 +1,12 @@
 -- Which numbers open streams have, and that the parity of an end's own numbers stays.
-use Rattle.std.proofs.Common.{◌≡◌, ℕ, zero, suc, ◌<◌, ◌≤◌, Bool, true, false, ◌&&◌, cond, List, [], ◌∷◌, replicate, get_or, refl, sym, subst, ap, ◌∙◌, arith, Option, None, Some, inl, inr}
+use Rattle.std.proofs.Common.{◌≡◌, ℕ, zero, suc, ◌<◌, ◌≤◌, Bool, true, false, ◌&&◌, cond, List, [], ◌∷◌, replicate, get_or, refl, sym, subst, ap, ◌∙◌, arith, Option, None, Some}
 use Rattle.std.specs.Prelude.{is_some, MatchOption}
 use Rattle.std.proofs.lemmas.Bool.{false≢true}
 use Rattle.std.proofs.lemmas.Bool.Decides.{nat_tests}
 use Rattle.st_streams.specs.Numbers.{IsStreamNumber}
 use Rattle.st_streams.specs.Slots.{slot}
 use Rattle.st_frames.specs.Frames.{Known, Packet, frames_of, CloseFrame, ConnectionClose, OtherFrame, LimitFrame, BlockedFrame, StreamClose, StreamMoney, StreamData}
-use Rattle.st_sender.specs.Sending.{Outgoing, Sending, new_outgoing, outgoing_at, with_outgoing}
+use Rattle.st_sender.specs.Sending.{Outgoing, Sending, outgoing_at}
 use Rattle.st_receiver.specs.Streams.{Receiving, is_open, with_incoming, with_kept, with_max, incoming_at, with_receive_max}
 use Rattle.st_receiver.specs.Data.{after_frame, after_frames}
 use Rattle.st_receiver.specs.Money.{after_money}
@@ -18,7 +18,7 @@ use Rattle.st_end.specs.State as state
 use Rattle.st_end.specs.State.{EndState}
 use Rattle.st_end.specs.Calls.{IsNoStream}
 use Rattle.st_end.specs.Lawful.{IsLawful}
-use Rattle.st_end.proofs.Streams.{sends, receives, ones_at, set_cases, ones_with, within, effect_opens}
+use Rattle.st_end.proofs.Streams.{sends, receives, ones_at, within, effect_opens}
 
 -- ---- numbers
 
@@ -35,12 +35,6 @@ none_open (suc n) (suc k) = none_open n k
 
 pub numbered_when_new : (s : Sending) → s.streams ≡ replicate 65 None → AreNumbered s
 numbered_when_new s e k h = absurd (false≢true (sym (ap (λ xs. is_some (slot xs k)) e ∙ none_open 65 k) ∙ h))
-
-pub numbered_with : (s : Sending) (k : ℕ) → IsStreamNumber k → AreNumbered s → AreNumbered (with_outgoing s k new_outgoing)
-numbered_with s k number n j h = elim (set_cases (sends s) k j) [
-  | inl same ↦ subst IsStreamNumber (sym same) number
-  | inr apart ↦ n j (ones_at s.streams j ∙ sym apart ∙ ap (λ bs. get_or bs j false) (sym (ones_with s.streams k new_outgoing)) ∙ sym (ones_at (with_outgoing s k new_outgoing).streams j) ∙ h)
-]
 
 within_is : (k : ℕ) → within k ≡ true → IsStreamNumber k
 within_is k e = (low e, high e)

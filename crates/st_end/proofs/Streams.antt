@@ -1,5 +1,5 @@
 -- Which streams are open, by number, at both sides of an end, and what leaves them as they are.
-use Rattle.std.proofs.Common.{◌≡◌, ℕ, zero, suc, ◌+◌, ◌<◌, ◌≤◌, Bool, true, false, not, ◌&&◌, cond, List, [], ◌∷◌, length, map, set, get_or, refl, sym, ap, subst, ◌∙◌, arith, Option, None, Some, ◌⊎◌, inl, inr, nat_le, nat_lt}
+use Rattle.std.proofs.Common.{◌≡◌, ℕ, zero, suc, ◌+◌, ◌<◌, ◌≤◌, Bool, true, false, not, ◌&&◌, cond, List, [], ◌∷◌, length, map, set, get_or, refl, sym, ap, subst, ◌∙◌, arith, Option, None, Some, inl, inr, nat_le, nat_lt}
 use Rattle.std.specs.Prelude.{is_some}
 use Rattle.std.specs.List.{fold, range_with_len}
 use Rattle.std.proofs.lemmas.Bool.{false≢true, cases_eq}
@@ -10,11 +10,10 @@ use Rattle.st_streams.proofs.SlotLemmas.{set_here, set_there}
 use Rattle.st_frames.specs.Frames.{Known, Packet, frames_of, CloseFrame, ConnectionClose, OtherFrame, LimitFrame, BlockedFrame, StreamClose, StreamMoney, StreamData}
 use Rattle.st_frames.specs.Told.{shares}
 use Rattle.st_sender.specs.Sending.{Outgoing, Sending, new_outgoing, outgoing_at, with_outgoing, changed_at, changed}
-use Rattle.st_receiver.specs.Streams.{Incoming, Receiving, incoming_at, with_incoming, opened_stream, is_open, may_name, with_max, with_kept, with_receive_max}
+use Rattle.st_receiver.specs.Streams.{Incoming, Receiving, incoming_at, with_incoming, is_open, may_name, with_max, with_kept, with_receive_max}
 use Rattle.st_receiver.specs.Data.{with_data, frame_fault, after_frame, frames_fault, after_frames}
 use Rattle.st_receiver.specs.Money.{parts, with_credits, after_money}
 use Rattle.st_receiver.specs.Closes.{with_close, after_close, after_closes, with_abort, after_connection_close, after_connection_closes}
-use Rattle.st_receiver.specs.Reading.{after_got}
 use Rattle.st_receiver.specs.Judged.{fault_of, effect}
 use Rattle.st_receiver.proofs.Tracking.{frames_none, may_of, may_alone}
 use Rattle.st_receiver.proofs.Crediting.{lawful_of}
@@ -44,10 +43,6 @@ set_same : (bs : List Bool) (k : ℕ) → get_or bs k false ≡ true → set bs 
 set_same [] k e = refl
 set_same (b ∷ bs) zero e = ap (λ c. c ∷ bs) (sym e)
 set_same (b ∷ bs) (suc k) e = ap (λ cs. b ∷ cs) (set_same bs k e)
-
--- a place is the one that was set, or has what it had
-pub set_cases : (bs : List Bool) (k j : ℕ) → (j ≡ k) ⊎ (get_or (set bs k true) j false ≡ get_or bs j false)
-set_cases bs k j = elim (cases_eq j k) [ inl same ↦ inl same | inr apart ↦ inr (set_there bs k true false j apart) ]
 
 -- an open stream that changes stays open
 stays_one : {X : Type 0} (xs : Slots X) (k : ℕ) (x : X) → is_some (slot xs k) ≡ true → ones (with_slot xs k x) ≡ ones xs
@@ -89,19 +84,12 @@ sends_stay s k f = changed_if s k f (outgoing_at s k) refl
 pub open_receives : (r : Receiving) (k : ℕ) (x : Incoming) → is_open r k ≡ true → receives (with_incoming r k x) ≡ receives r
 open_receives r k x e = stays_one r.streams k x e
 
--- a stream that opens at both sides
-pub opens_both : (s : Sending) (r : Receiving) (k : ℕ) → receives r ≡ sends s → receives (opened_stream r k) ≡ sends (with_outgoing s k new_outgoing)
-opens_both s r k e = ones_with r.streams k (incoming_at r k) ∙ ap (λ bs. set bs k true) e ∙ sym (ones_with s.streams k new_outgoing)
-
 max_if : (b : Bool) (r : Receiving) (k amount : ℕ) → is_open r k ≡ b → receives (cond b (with_incoming r k (with_max amount (incoming_at r k))) (with_kept r k amount)) ≡ receives r
 max_if true r k amount e = open_receives r k (with_max amount (incoming_at r k)) e
 max_if false r k amount e = refl
 
 pub max_receives : (r : Receiving) (k amount : ℕ) → receives (with_receive_max r k amount) ≡ receives r
 max_receives r k amount = max_if (is_open r k) r k amount refl
-
-pub got_receives : (r : Receiving) (k limit : ℕ) → is_open r k ≡ true → receives (after_got r k limit) ≡ receives r
-got_receives r k limit e = open_receives r k _ e
 
 -- ---- a packet that takes effect
 

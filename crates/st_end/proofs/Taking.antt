@@ -25,7 +25,7 @@ use Rattle.st_end.specs.Lawful.{IsLawful}
 use Rattle.st_end.proofs.Numbered.{effect_numbered, effect_parity}
 use Rattle.st_end.specs.Receiving.{Received, Unread, Rejects, reply_payload, f01, verdict_on, received_as, received, no_prepare, prepare_or_none, opened_at, opened_too, tells_blocked, marked_if, marked, all_marked, new_peer, told, fulfilled}
 use Rattle.st_end.proofs.Streams.{joined, taken_joined}
-use Rattle.st_end.proofs.Lawfulness.{Stays, itself, then_stays, both_open, lawful_with, all_told_stays}
+use Rattle.st_end.proofs.Lawfulness.{Stays, itself, then_stays, both_open, all_told_stays}
 
 -- ---- reading
 
@@ -85,9 +85,6 @@ unfolding opened_too
 too_flies r s = opened_flies r (range_with_len 1 64) s
 
 -- ---- what stays lawful
-
-pub told_lawful : (e : EndState) (p : Packet) → IsLawful e → IsLawful (told e p)
-told_lawful e p l = lawful_with e (after_all_told e.sending (frames_of p)) (all_told_stays e.sending (frames_of p) e.sending (itself e.sending)) l
 
 pick_address : (b : Bool) (address peer : List ℕ) → is_address address ≡ b → is_address peer ≡ true → is_address (cond b address peer) ≡ true
 pick_address true address peer a p = a

@@ -9,31 +9,6 @@ pub calls_sum : (m n : ℕ) (a : Option ℕ) → calls_after m (calls_after n a)
 calls_sum m n None = refl
 calls_sum m n (Some k) = ap (λ x. Some x) (omega arith)
 
-pub calls_none : (a : Option ℕ) → a ≡ calls_after 0 a
-calls_none None = refl
-calls_none (Some k) = ap (λ x. Some x) (omega arith)
-
-pub asks_none : (a : Option ℕ) (n : ℕ) → TakesAsks a a n n
-asks_none a n = record {
-  fewer = omega arith;
-  calls = calls_none a ∙ ap (λ x. calls_after x a) (omega arith);
-}
-
-pub asks_one : (a b c : Option ℕ) (before now after : ℕ) → TakesAsks a b before now → c ≡ calls_after 1 b → now ≡ after + 1 → TakesAsks a c before after
-asks_one a b c before now after t h e = record {
-  fewer = omega (arith, t.fewer, e);
-  calls = h ∙ ap (λ x. calls_after 1 x) t.calls ∙ calls_sum 1 (before - now) a ∙ ap (λ x. calls_after x a) (omega (arith, t.fewer, e));
-}
-
-pub spends_none : (t : Tally) (a : Option ℕ) (n : ℕ) → Spends t t a a n n
-spends_none t a n = record {
-  device = 0;
-  asked = 0;
-  sum = omega arith;
-  device_calls = omega arith;
-  asked_calls = calls_none a;
-}
-
 pub spends_turns : (t u v : Tally) (a b : Option ℕ) (before now after : ℕ) → Spends t u a b before now → TakesTurns u v now after → Spends t v a b before after
 spends_turns t u v a b before now after s x = record {
   device = s.device + (now - after);

@@ -157,10 +157,6 @@ checked_next whole n i bytes rest first some h so_far =
 
 -- ---- the iterator
 
-pub ok_all : (r : Result (List (ℕ × Known)) FrameError) → IsOk r → r ≡ Ok (all_of r)
-ok_all (Ok xs) h = refl
-ok_all (Err e) h = absurd cc
-
 skeleton_ok : (n i : ℕ) (bytes : List ℕ) (xs : List (ℕ × Known)) → frames_at n i bytes ≡ Ok xs → IsOk (raws_at n bytes)
 skeleton_ok n i bytes xs h =
     let b = bind_ok (outer (raws_at n bytes)) (known_at i) xs h in

@@ -1,5 +1,5 @@
 -- How frames follow one another in a log.
-use Rattle.std.proofs.Common.{◌≡◌, ◌≢◌, ◌↔◌, ℕ, zero, suc, ◌+◌, ◌-◌, ◌<◌, ◌≤◌, List, length, Bool, true, false, Option, Some, None, ◌⊎◌, IsTrue, MatchOption, is_some, inl, inr, arith, refl, sym, ap, ap₂, ◌∙◌, ◌*◌, mul-le-mul_right}
+use Rattle.std.proofs.Common.{◌≡◌, ◌≢◌, ◌↔◌, ℕ, zero, suc, ◌+◌, ◌-◌, ◌<◌, ◌≤◌, List, length, Bool, true, false, inl, inr, arith, refl, sym, ap, ap₂, ◌∙◌, ◌*◌, mul-le-mul_right}
 use Rattle.std.proofs.lemmas.Bool.{false≢true, cases_eq, cases_lt, not-true, not-false}
 use Rattle.sqlite_wal.specs.Format.{part, be32, stored_sum, IsFrame}
 use Rattle.sqlite_wal.specs.Recovery.{frame_at, frames_len, frame, header, sum_before, Passes}
@@ -10,7 +10,7 @@ use Rattle.sqlite_wal.proofs.PartLemmas.{frames_len-le, held_is_part}
 use Rattle.sqlite_wal.proofs.FormatLemmas.{be32-part, pair}
 use Rattle.st_hop_books.specs.declared.damage.Fit.{Fit}
 use Rattle.st_hop_books.specs.declared.damage.Fit.TheVariants.{Absent, Broken, Inner, Last}
-use Rattle.st_hop_books.specs.Damage.{IsBroken, IsFit, IsPast, IsWanted, IsNext, HasNoNext, IsFirstBroken, wants}
+use Rattle.st_hop_books.specs.Damage.{IsFit, IsPast, IsWanted, HasNoNext, wants}
 
 -- the checksum in a frame's header, read as the eight bytes by themselves
 pub sum_in_frame : (log : List ℕ) (at n : ℕ) → 24 ≤ n → stored_sum (part log at n) 16 ≡ stored_sum (part log (at + 16) 8) 0
@@ -25,60 +25,12 @@ sum_in_frame log at n wide =
 pub past_stays : (page_size : ℕ) (log : List ℕ) (i j : ℕ) → IsPast page_size log i → i ≤ j → ¬ Passes page_size log j
 past_stays page_size log i j past low passes = absurd (omega (arith, frames_len-le page_size i j low, passes.within))
 
-pub broken_or_past : (page_size : ℕ) (log : List ℕ) (i : ℕ) (fit : Fit) → IsFit page_size log i fit → (fit ≡ Absent) ⊎ (fit ≡ Broken) → ¬ Passes page_size log i
-broken_or_past page_size log i Absent h why = past_stays page_size log i i h (omega arith)
-broken_or_past page_size log i Broken h why = h
-broken_or_past page_size log i Inner h why = elim why [ inl e ↦ absurd (cc) | inr e ↦ absurd (cc) ]
-broken_or_past page_size log i Last h why = elim why [ inl e ↦ absurd (cc) | inr e ↦ absurd (cc) ]
-
--- one frame more
-pub passes_more : (page_size : ℕ) (log : List ℕ) (i : ℕ) → ((j : ℕ) → j < i → Passes page_size log j) → Passes page_size log i → (j : ℕ) → j < i + 1 → Passes page_size log j
-passes_more page_size log i before here j low = elim (cases_eq j i) [
-  | inl same ↦ rw same here
-  | inr other ↦ before j (omega arith)
-]
-
 pub wanted_not : (ends : Bool) (page_size : ℕ) (log : List ℕ) (from i : ℕ) → ((j : ℕ) → from ≤ j → j < i → ¬ IsWanted ends page_size log j) → ¬ IsWanted ends page_size log i
     → (j : ℕ) → from ≤ j → j < i + 1 → ¬ IsWanted ends page_size log j
 wanted_not ends page_size log from i before here j low high = elim (cases_eq j i) [
   | inl same ↦ rw same here
   | inr other ↦ before j low (omega arith)
 ]
-
--- no earlier frame is broken
-first_is_first : (page_size : ℕ) (log : List ℕ) (n i : ℕ) → IsFirstBroken page_size log n → ¬ Passes page_size log i → n ≤ i
-first_is_first page_size log n i first broken = elim (cases_lt i n) [ inl high ↦ absurd (broken (first.whole i high)) | inr low ↦ low ]
-
-next_is_first : (page_size : ℕ) (log : List ℕ) (bad n i : ℕ) → IsNext true page_size log (bad + 1) n → bad + 1 ≤ i → IsWanted true page_size log i → n ≤ i
-next_is_first page_size log bad n i next low wanted = elim (cases_lt i n) [ inl high ↦ absurd (next.first i low high wanted) | inr h ↦ h ]
-
--- three searches find what is broken, if anything is
-pub found_broken : (page_size : ℕ) (log : List ℕ) (bad last : ℕ) (later : Option ℕ) → IsFirstBroken page_size log bad → IsNext true page_size log (bad + 1) last
-    → MatchOption later (HasNoNext false page_size log (last + 1)) (IsNext false page_size log (last + 1)) → IsTrue (is_some later) ↔ IsBroken page_size log
-found_broken page_size log bad last None first next none = (
-  λ no'. absurd (false≢true no'),
-  λ b. absurd (
-      let low : bad ≤ b.bad = first_is_first page_size log bad b.bad first b.broken in
-      let last_low : last ≤ b.last = next_is_first page_size log bad last b.last next (omega (arith, low, b.behind)) (b.ends.0, λ _. b.ends.1) in
-      none b.later (omega (arith, last_low, b.after)) (b.goes_on, λ no'. absurd (false≢true no'))),
-)
-found_broken page_size log bad last (Some later) first next found = (
-  λ _. record {
-    bad = bad;
-    last = last;
-    later = later;
-    broken = first.broken;
-    behind = omega (arith, next.behind);
-    ends = (next.wanted.0, next.wanted.1 refl);
-    after = omega (arith, found.behind);
-    goes_on = found.wanted.0;
-  },
-  λ _. refl,
-)
-
-pub not_broken : (page_size : ℕ) (log : List ℕ) (bad : ℕ) → IsFirstBroken page_size log bad → HasNoNext true page_size log (bad + 1) → ¬ IsBroken page_size log
-not_broken page_size log bad first none b =
-    none b.last (omega (arith, first_is_first page_size log bad b.bad first b.broken, b.behind)) (b.ends.0, λ _. b.ends.1)
 
 -- the checksum before a later frame is in the header of the frame before it
 pub sum_after : (page_size : ℕ) (log : List ℕ) (i : ℕ) → i ≢ 0 → stored_sum (part log (frame_at page_size (i - 1) + 16) 8) 0 ≡ sum_before page_size log i

@@ -8,7 +8,6 @@ use Rattle.sqlite_value.specs.Order.{Row}
 use Rattle.sqlite_trees.specs.declared.store.Shape.{Shape}
 use Rattle.sqlite_trees.specs.declared.store.Shape.TheVariants.{Table, Absent}
 use Rattle.sqlite_trees.specs.View.{View, KeepsSchema, KeepsCommitted, OnlyWrites, IsClean, IsRolledBack, IsShaped, SetsTree, Commits}
-use Rattle.sqlite.specs.Steps.{IsFresh}
 use Rattle.sqlite_trees.proofs.Doubt.{no_doubt}
 use Rattle.st_hop_books.specs.declared.balance.Amounts.{Amounts}
 use Rattle.st_hop_books.specs.Sums.{nothing}
@@ -20,19 +19,13 @@ use Rattle.st_hop_books.specs.declared.balance.Payment.{Payment}
 use Rattle.st_hop_books.specs.Table.{AreBooks, ListsTables, line, lines, payment_tree}
 use Rattle.st_hop_books.proofs.LineLemmas.{put_end}
 use Rattle.st_hop_books.proofs.PaymentLemmas.{put_payment, payments_push}
-use Rattle.st_hop_books.specs.Standing.{Draws, Enters, Keeps, Holds, IsReady, ReadsOnly, trail_in, trail_of}
+use Rattle.st_hop_books.specs.Standing.{Draws, Keeps, Holds, IsReady, ReadsOnly, trail_in, trail_of}
 
 pub only_writes_then : (a b c : View) → OnlyWrites a b → OnlyWrites b c → OnlyWrites a c
 only_writes_then a b c p q = q ∙ ap (λ (v : View). record v { trees = c.trees; cursors = c.cursors }) p
 
-pub only_writes_none : (a : View) → OnlyWrites a a
-only_writes_none a = refl
-
 pub draws_then : (a b c : View) (names : List (List ℕ)) (x y z : List Amounts) → Draws a b names x y → Draws b c names y z → Draws a c names x z
 draws_then a b c names x y z p q = record { frame = only_writes_then a b c p.frame q.frame; books = λ starts trail h. q.books starts trail (p.books starts trail h) }
-
-pub draws_none : (a : View) (names : List (List ℕ)) (x : List Amounts) → Draws a a names x x
-draws_none a names x = record { frame = refl; books = λ starts trail h. h }
 
 schema_then : (a b c : View) → KeepsSchema a b → KeepsSchema b c → KeepsSchema a c
 schema_then a b c p q = record {
@@ -48,13 +41,6 @@ keeps_then a b c p q = record {
   schema = schema_then a b c p.schema q.schema;
   was_open = λ h. p.was_open (q.was_open h);
   committed = λ h. q.committed h ∙ p.committed (q.was_open h);
-}
-
-pub keeps_none : (a : View) → Keeps a a
-keeps_none a = record {
-  schema = record { shape = refl; reals = refl; committed_shape = refl; committed_reals = refl; numbered = refl };
-  was_open = λ h. h;
-  committed = λ _. refl;
 }
 
 -- one write
@@ -261,17 +247,6 @@ holds_own v starts names all trail count held = (
 pub read_ready : (old new : View) → ReadsOnly old new → IsReady old → IsReady new
 read_ready old new reads r = rw reads (record { sound = r.sound; laid = record { table = r.laid.table; audit = r.laid.audit; filed = r.laid.filed; kept = r.laid.kept; numbered = r.laid.numbered }; settled = r.settled; loads = r.loads })
 
--- and it is fresh
-pub undone_fresh : (old new : View) → IsRolledBack old new → IsClean new → IsTrue new.is_numbered → IsTrue new.is_open → IsFresh new
-undone_fresh old new undone clean numbered is_open =
-    let back = undone.kept clean in
-    record {
-      sound = (undone.undone is_open).1;
-      numbered = numbered;
-      clean = (undone.undone is_open).0 ∙ sym (back.committed is_open);
-      unmarked = back.marks is_open;
-    }
-
 -- a tree that is not there has no rows
 pub absent_empty : (s : Shape) (rows : List Row) → s ≡ Absent → IsShaped s rows → rows ≡ []
 absent_empty s rows none h = let P : Shape → Type 0 = λ t. IsShaped t rows in subst P none h
@@ -373,7 +348,3 @@ found_ready was new starts names all reads lists rows named counted lawful proof
     subst (λ (db : Trees). AreBooks db starts names all (trail_of db)) same (record { rows = rows; named = named; audit = refl; payments = lawful; filed = refl; proofs = proofs; counted = counted; objects = lists })
 
 -- ---- bookings
-
--- no booking
-pub enters_none : (a : View) (names : List (List ℕ)) (all : List Amounts) (last : ℕ) → Enters a a names all all last []
-enters_none a names all last = record { frame = refl; books = λ starts trail is h. h }

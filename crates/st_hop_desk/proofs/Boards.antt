@@ -88,11 +88,3 @@ pub told_step : (slots after told : List Slot) (ps : List ℕ) (p : ℕ) (places
 told_step slots after told ps p places ts o t f tokens is_known now fate token are one there is =
     let e = told_one slots ps p places ts o tokens is_known are one there is.0 in
     (e.0, ap (λ s. with_told s ps ts is_known) (now ∙ ap (λ x. set slots p (Told x)) (fate ∙ ap (λ u. fate_by u is_known) token)) ∙ e.1 ∙ is.1)
-
--- a batch of nothing changes nothing
-pub none_away : (old : List Slot) (l : Lists) (new : List Slot) (last : ℕ) → IsBatch old l new last → l.bookings ≡ [] → new ≡ old
-none_away old l new last is none = is.away ∙ ap (with_away old) (none_of l.places (is.waited ∙ ap (map (λ b. Some (Waits b))) none))
-  where
-    none_of : (ps : List ℕ) → map (slice_get old) ps ≡ [] → ps ≡ []
-    none_of [] e = refl
-    none_of (p ∷ ps) e = absurd (let n = ap length e in omega (arith, n))

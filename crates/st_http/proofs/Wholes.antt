@@ -1,30 +1,17 @@
 -- What a whole message was.
-use Rattle.std.proofs.Common.{◌≡◌, ℕ, List, [], refl, subst, inl, arith, Option, Some, None, Ok, Err, IsSome, length, Result, OnOk}
+use Rattle.std.proofs.Common.{◌≡◌, ℕ, List, [], refl, subst, inl, arith, Option, Some, None, Ok, Err, length, Result, OnOk}
 use Rattle.std.specs.Io.KnownBytes.{Consumes}
 use Rattle.st_http.specs.Verdict.{Expected, request, response}
 use Rattle.st_http.specs.Message.{Says, Standing, unfinished, whole, refused}
-use Rattle.st_http.specs.Progress.{Progress, IsWhole, body_of, account_of}
+use Rattle.st_http.specs.Progress.{Progress, body_of, account_of}
 use Rattle.st_http.specs.Reads.{Reads, ReadsMessage}
 use Rattle.st_http.specs.Serves.{IsCalled, IsDue}
-use Rattle.st_http.proofs.Refusals.{request_answers, response_answers}
+use Rattle.st_http.proofs.Refusals.{response_answers}
 use Rattle.st_http.proofs.Standings.{open_nothing}
 
 -- the empty text is an unfinished message
 pub begins : (expected : Expected) → Says expected [] (unfinished 1)
 begins expected = inl (open_nothing, omega arith, refl)
-
-pub whole_has_body : (s : Standing) → IsWhole s → IsSome (body_of s)
-whole_has_body (whole account body) is = refl
-whole_has_body (unfinished w) is = absurd is
-whole_has_body (refused e) is = absurd is
-
--- a whole request has an account
-pub whole_has_account : (tokens : List (List ℕ)) (text : List ℕ) (s : Standing) → Says (request tokens) text s → IsWhole s → IsSome (account_of s)
-whole_has_account tokens text (whole account body) says is =
-    let some = request_answers tokens text body (Ok (record { account = account; size = length body })) says in
-    rw some.1 refl
-whole_has_account tokens text (unfinished w) says is = absurd is
-whole_has_account tokens text (refused e) says is = absurd is
 
 -- the body of a whole message
 with_body : (expected : Expected) (text : List ℕ) (s : Standing) (body : List ℕ) → Says expected text s → body_of s ≡ Some body → Says expected text (whole (account_of s) body)

@@ -1,12 +1,11 @@
 -- What the end's calls keep, by what they answered.
 use Rattle.std.proofs.Common.{◌≡◌, ◌≢◌, ℕ, ℤ, List, Option, None, Some, Result, Ok, Err, sym, ap, subst, ⊎_elim, true}
-use Rattle.std.specs.Prelude.{Vec, is_ok, IfOk, OnErr, MatchOption}
+use Rattle.std.specs.Prelude.{is_ok, IfOk, OnErr, MatchOption}
 use Rattle.st_end.specs.State.{EndState}
 use Rattle.st_end.specs.declared.error.EndError.{EndError}
 use Rattle.st_end.specs.declared.error.EndError.TheVariants as end_errors
 use Rattle.st_end.specs.declared.received.Received.{Received}
 use Rattle.st_end.specs.Calls.{Answer, OrWants, open_stream, write}
-use Rattle.st_end.specs.Reading.{read}
 use Rattle.st_end.specs.Sending.{GoesNone}
 use Rattle.st_end.specs.Unsealed.{Launched, GoesUnsealed}
 use Rattle.st_end.specs.Receiving as receiving
@@ -54,6 +53,3 @@ wants_err {X} e b defined why ne h =
 
 pub refused_still : (e b : EndState) (k : ℕ) (xs : List ℕ) (why : EndError) → why ≢ end_errors.NoMemory → b ≡ e → OrWants e (write e k xs) (Err why, b) → write b k xs ≡ (Err why, b)
 refused_still e b k xs why ne same h = subst (λ (z : EndState). write z k xs ≡ (Err why, b)) (sym same) (wants_err e b (write e k xs) why ne h)
-
-pub unread_still : (e b : EndState) (k n : ℕ) (why : EndError) → why ≢ end_errors.NoMemory → b ≡ e → OrWants e (read e k n) (Err why, b) → read e k n ≡ (Err why, e)
-unread_still e b k n why ne same h = subst (λ (z : EndState). read e k n ≡ (Err why, z)) same (wants_err e b (read e k n) why ne h)

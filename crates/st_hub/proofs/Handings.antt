@@ -1,5 +1,5 @@
 -- What handing out ends of rings leaves.
-use Rattle.std.proofs.Common.{◌≡◌, ◌≢◌, ℕ, ◌+◌, ◌*◌, ◌<◌, Bool, true, false, not, ◌&&◌, List, [], map, length, Option, None, Some, slice_get, is_some, refl, sym, ap, subst, ◌∙◌, arith, inl, inr, length-set}
+use Rattle.std.proofs.Common.{◌≡◌, ◌≢◌, ℕ, ◌+◌, ◌*◌, ◌<◌, Bool, true, false, not, List, [], map, length, Option, None, Some, slice_get, is_some, refl, sym, ap, subst, ◌∙◌, arith, inl, inr, length-set}
 use Rattle.std.specs.Prelude.{slice_set, IsSome, IfSome, ◌↔◌}
 use Rattle.std.proofs.lemmas.List.{map-set}
 use Rattle.std.proofs.lemmas.Bool.{cases_eq}
@@ -24,16 +24,6 @@ use Rattle.st_hub.proofs.Lists.{at_map}
 use Rattle.st_hub.proofs.Ties.{tied_same}
 use Rattle.st_hub.proofs.SentKeeping.{out_same}
 use Rattle.st_hub.proofs.EndEvents.{Opened}
-
-pub left_false : (a b : Bool) → (a && not b) ≡ false → a ≡ true → b ≡ true
-left_false true true e h = refl
-left_false true false e h = absurd (cc)
-left_false false b e h = absurd (cc)
-
-pub left_true : (a b : Bool) → (a && not b) ≡ true → (a ≡ true) × (b ≡ false)
-left_true true true e = absurd (cc)
-left_true true false e = (refl, refl)
-left_true false b e = absurd (cc)
 
 is_there : {X : Type 0} (o : Option X) → IsSome o → not (is_some o) ≡ false
 is_there None h = absurd (cc)

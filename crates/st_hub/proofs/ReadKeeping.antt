@@ -18,9 +18,6 @@ use Rattle.st_hub.specs.Keeping.{KeepsRead}
 pub read_same : (r : Receiving) → KeepsRead 0 r r
 read_same r = record { width = refl; each = λ k. refl; credit = omega arith; parity = refl }
 
-pub read_join : (n m : ℕ) (r s t : Receiving) → KeepsRead n r s → KeepsRead m s t → KeepsRead (n + m) r t
-read_join n m r s t f g = record { width = g.width ∙ f.width; each = λ k. g.each k ∙ f.each k; credit = omega (arith, f.credit, g.credit); parity = g.parity ∙ f.parity }
-
 -- what changes nothing of the credit
 read_then : (n : ℕ) (r s t : Receiving) → KeepsRead n r s → KeepsRead 0 s t → KeepsRead n r t
 read_then n r s t f g = record { width = g.width ∙ f.width; each = λ k. g.each k ∙ f.each k; credit = omega (arith, f.credit, g.credit); parity = g.parity ∙ f.parity }

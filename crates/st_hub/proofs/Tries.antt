@@ -29,17 +29,8 @@ use Rattle.st_hub.proofs.StepTies.{flows_none, flows_more}
 
 -- ---- the test for another writer
 
-pub apart_left : (b : Bool) (m n : ℕ) → (not (nat_eq m n) && b) ≡ false → m ≢ n → b ≡ false
-apart_left b m n e ne = grind (arith, nat_tests)
-
 pub busy_is : (b : Bool) (m n : ℕ) → m ≢ n → b ≡ (not (nat_eq m n) && b)
 busy_is b m n ne = grind (arith, nat_tests)
-
-pub not_busy : (b : Bool) (m n : ℕ) → m ≡ n → false ≡ (not (nat_eq m n) && b)
-not_busy b m n e = grind (arith, nat_tests)
-
-pub apart_here : (b : Bool) (m n : ℕ) → (not (nat_eq m n) && b) ≡ true → (m ≢ n) × (b ≡ true)
-apart_here b m n e = (λ same. absurd (let f : (not (nat_eq m n) && b) ≡ true = e in grind (arith, nat_tests)), grind (arith, nat_tests))
 
 pub end_end : {A : Type 0} (xs : List (Item A)) → has_end (xs ++ item.End ∷ []) ≡ true
 end_end [] = refl

@@ -1,5 +1,5 @@
 -- What holds of each element at its place.
-use Rattle.std.proofs.Common.{◌≡◌, ℕ, zero, suc, ◌+◌, List, [], ◌∷◌, ◌++◌, length, map, set, Some, slice_get, sym, ap, ◌∙◌, subst, arith}
+use Rattle.std.proofs.Common.{◌≡◌, ℕ, zero, suc, ◌+◌, List, [], ◌∷◌, ◌++◌, length, map, Some, slice_get, sym, ap, ◌∙◌, subst, arith}
 use Rattle.std.specs.Prelude.{slice_index_or}
 use Rattle.std.specs.Option.{option_map}
 use Rattle.std.proofs.lemmas.List.{length-append}
@@ -13,13 +13,6 @@ each-push P [] y h p zero x e = subst (P 0) (cc) p
 each-push P [] y h p (suc k) x e = absurd (cc)
 each-push P (z ∷ xs) y h p zero x e = h zero x e
 each-push P (z ∷ xs) y h p (suc k) x e = each-push (λ n. P (suc n)) xs y (λ n. h (suc n)) p k x e
-
-pub each-set : {A : Type 0} (P : ℕ → A → Type 0) (xs : List A) (i : ℕ) (y : A) → Each P xs → P i y → Each P (set xs i y)
-each-set P [] i y h p k x e = h k x e
-each-set P (z ∷ xs) zero y h p zero x e = subst (P 0) (cc) p
-each-set P (z ∷ xs) zero y h p (suc k) x e = h (suc k) x e
-each-set P (z ∷ xs) (suc i) y h p zero x e = h zero x e
-each-set P (z ∷ xs) (suc i) y h p (suc k) x e = each-set (λ n. P (suc n)) xs i y (λ n. h (suc n)) p k x e
 
 -- the value at a place of a mapped list
 pub at_map : {A B : Type 0} (f : A → B) (xs : List A) (k : ℕ) (x : A) (d : B) → slice_get xs k ≡ Some x → slice_index_or (map f xs) k d ≡ f x

@@ -69,9 +69,3 @@ module _ (marks base : List ℕ) (from to w p old : ℕ) (small : p < 2 ^ 64) (w
 -- once each word up to the end is done
 none_after : (from to k n : ℕ) → to ≤ 64 * n → (is_between from to k && nat_lt k (64 * n)) ≡ is_between from to k
 none_after from to k n l = grind (arith, nat_tests)
-
-pub marked_whole : (m base : Bool) (from to k n : ℕ) → to ≤ 64 * n → m ≡ ((is_between from to k && nat_lt k (64 * n)) || base) → m ≡ (is_between from to k || base)
-marked_whole m base from to k n l h = h ∙ ap (λ b. b || base) (none_after from to k n l)
-
-pub unmarked_whole : (m base : Bool) (from to k n : ℕ) → to ≤ 64 * n → m ≡ (not (is_between from to k && nat_lt k (64 * n)) && base) → m ≡ (not (is_between from to k) && base)
-unmarked_whole m base from to k n l h = h ∙ ap (λ b. not b && base) (none_after from to k n l)

@@ -1,15 +1,10 @@
 -- What is asked of a stream, and that one that is open opens no more.
-use Rattle.std.proofs.Common.{◌≡◌, ℕ, zero, suc, ◌%◌, ◌<◌, Bool, true, false, not, nat_eq, nat_le, ◌&&◌, ◌||◌, [], ◌∷◌, length, set, Option, Some, None, refl, sym, ap, arith}
+use Rattle.std.proofs.Common.{◌≡◌, ℕ, zero, suc, ◌<◌, Bool, true, false, nat_le, ◌&&◌, [], ◌∷◌, length, set, Option, Some, None, refl, sym, ap, arith}
 use Rattle.std.specs.Prelude.{is_some, Result, Ok, Err, IfOk, OnOk, OnErr}
 use Rattle.std.proofs.lemmas.Bool.Decides.{nat_tests}
 use Rattle.st_streams.specs.Slots.{Slots, slot}
 use Rattle.st_streams.proofs.SlotLemmas.{slot_within}
-use Rattle.st_receiver.specs.Streams.{Incoming, Receiving, is_open, may_name, credited_of, incoming_at, incoming_or, with_incoming}
-
--- a stream that is not open was credited nothing
-pub none_credited : (o : Option Incoming) → is_some o ≡ false → credited_of o ≡ 0
-none_credited None e = refl
-none_credited (Some x) e = absurd cc
+use Rattle.st_receiver.specs.Streams.{Incoming, Receiving, is_open, incoming_at, incoming_or, with_incoming}
 
 -- a stream that is open has a place
 pub open_within : (ss : Slots Incoming) (k : ℕ) (o : Option Incoming) → slot ss k ≡ o → is_some o ≡ true → k < length ss
@@ -19,9 +14,6 @@ open_within ss k None e is = absurd cc
 within : (k : ℕ) (b : Bool) → (nat_le 1 k && nat_le k 64 && b) ≡ true → k < 65
 within k true e = grind (arith, nat_tests)
 within k false e = grind (arith, nat_tests)
-
-pub may_below : (r : Receiving) (k : ℕ) → may_name r k ≡ true → k < 65
-may_below r k e = within k (is_open r k || not (nat_eq (k % 2) r.parity)) e
 
 set-again : (ss : Slots Incoming) (k : ℕ) (x : Incoming) → slot ss k ≡ Some x → set ss k (Some x) ≡ ss
 set-again [] k x e = refl

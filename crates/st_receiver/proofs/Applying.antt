@@ -1,10 +1,10 @@
 -- How a packet takes effect, stream by stream and frame by frame.
-use Rattle.std.proofs.Common.{◌≡◌, ◌≢◌, ℕ, zero, suc, ◌%◌, ◌<◌, Bool, true, false, not, nat_eq, nat_le, ◌&&◌, ◌||◌, List, [], ◌∷◌, length, map, set, get_or, Option, Some, None, refl, sym, ap, ◌∙◌, subst, arith, ◌⊎◌, inl, inr}
+use Rattle.std.proofs.Common.{◌≡◌, ◌≢◌, ℕ, zero, suc, ◌%◌, ◌<◌, Bool, true, false, not, nat_eq, nat_le, ◌&&◌, ◌||◌, List, [], ◌∷◌, length, map, set, Option, Some, None, refl, sym, ap, ◌∙◌, subst, arith, ◌⊎◌, inl, inr}
 use Rattle.std.specs.Prelude.{is_some, slice_index}
 use Rattle.std.specs.List.{list_any}
 use Rattle.std.specs.Ordering.{nat_cmp}
 use Rattle.std.specs.FinSet.{FinSet}
-use Rattle.std.proofs.lemmas.List.{length-set, get_or-set_same, get_or-set_other, get_or_read}
+use Rattle.std.proofs.lemmas.List.{length-set, get_or-set_same, get_or-set_other}
 use Rattle.std.proofs.lemmas.Bool.{cases_eq}
 use Rattle.st_streams.specs.Slots.{Slots, slot}
 use Rattle.st_streams.proofs.SlotLemmas.{slot_within}
@@ -128,11 +128,6 @@ unfolding after_connection_closes
 none_connection r fs e = ap (λ zs. after_connection_closes r (map frame_of zs)) e
 
 -- ---- windows that wait
-
-pub window_ready : (s : Standing) (parity : ℕ) (ss : Slots Incoming) (kept : List ℕ) (fulfilled : FinSet nat_cmp) (credit : ℕ) (closed : Bool) (room : ℕ) (windows : Slots Held) (k : ℕ) (o : Option Held)
-    → standing (shown parity ss kept fulfilled credit closed) room windows ≡ s → k < length windows → o ≡ get_or windows k o → is_some o ≡ true → is_ready s k ≡ true
-window_ready s parity ss kept fulfilled credit closed room windows k o e l at is =
-    ap (λ (t : Standing). is_ready t k) (sym e) ∙ ap (λ q. is_some (slot ss k) || is_some q) (sym (get_or_read windows k o l at None)) ∙ ap (λ b. is_some (slot ss k) || b) is ∙ or_true (is_some (slot ss k))
 
 pub window_made : (parity : ℕ) (ss : Slots Incoming) (kept : List ℕ) (fulfilled : FinSet nat_cmp) (credit : ℕ) (closed : Bool) (room : ℕ) (windows : Slots Held) (k : ℕ) (w : Held)
     → k < length windows → is_ready (standing (shown parity ss kept fulfilled credit closed) room (set windows k (Some w))) k ≡ true

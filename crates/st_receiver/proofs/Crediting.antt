@@ -274,19 +274,10 @@ le_not a b l = grind (arith, nat_tests)
 eq_not : (n : ℕ) → 0 < n → nat_eq n 0 ≡ false
 eq_not n l = grind (arith, nat_tests)
 
-pub fault_past : (r : Receiving) (amount : ℕ) (fs : List Known) → 2 ^ 64 ≤ sum (shares fs) → Some NoShares ≡ money_fault r amount fs
-fault_past r amount fs l =
-    ap (λ b. fault_by b (nat_lt 0 amount) (nat_eq (sum (shares fs)) 0) (any_over_max r.streams (parts amount (shares fs))) (nat_le (2 ^ 63) (r.credit + amount))) (sym (le_true (2 ^ 64) (sum (shares fs)) l))
-
 pub fault_nothing : (r : Receiving) (amount : ℕ) (fs : List Known) → sum (shares fs) < 2 ^ 64 → amount ≡ 0 → None ≡ money_fault r amount fs
 fault_nothing r amount fs l z =
     let no : nat_lt 0 amount ≡ false = grind (arith, nat_tests) in
     λ i. fault_by (sym (le_not (2 ^ 64) (sum (shares fs)) l) i) (sym no i) (nat_eq (sum (shares fs)) 0) (any_over_max r.streams (parts amount (shares fs))) (nat_le (2 ^ 63) (r.credit + amount))
-
-pub fault_none : (r : Receiving) (amount : ℕ) (fs : List Known) → sum (shares fs) < 2 ^ 64 → 0 < amount → sum (shares fs) ≡ 0 → Some NoShares ≡ money_fault r amount fs
-fault_none r amount fs l pos z =
-    let yes : nat_eq (sum (shares fs)) 0 ≡ true = grind (arith, nat_tests) in
-    λ i. fault_by (sym (le_not (2 ^ 64) (sum (shares fs)) l) i) (sym (pays_true amount pos) i) (sym yes i) (any_over_max r.streams (parts amount (shares fs))) (nat_le (2 ^ 63) (r.credit + amount))
 
 fault_over : (r : Receiving) (amount : ℕ) (fs : List Known) → sum (shares fs) < 2 ^ 64 → 0 < amount → 0 < sum (shares fs) → any_over_max r.streams (parts amount (shares fs)) ≡ true → Some OverReceiveMax ≡ money_fault r amount fs
 fault_over r amount fs l pos some over =

@@ -1,5 +1,5 @@
 -- A chunk that an inbox accepts.
-use Rattle.std.proofs.Common.{◌≡◌, ◌+◌, ◌-◌, ◌^◌, ◌<◌, ◌≤◌, ℕ, Bool, true, false, cond, List, length, arith, refl, sym, ap, ◌∙◌, Result, Ok, Err, IsOk}
+use Rattle.std.proofs.Common.{◌≡◌, ◌+◌, ◌-◌, ◌^◌, ◌<◌, ℕ, Bool, true, false, cond, List, length, arith, refl, sym, ap, ◌∙◌, Result, Ok, Err, IsOk}
 use Rattle.std.specs.Prelude.{is_err, nat_le, nat_lt, not, ◌&&◌}
 use Rattle.std.proofs.lemmas.Bool.Decides.{nat_tests}
 use Rattle.st_reassembly.specs.declared.error.InboxError.{InboxError}
@@ -23,14 +23,6 @@ piece_fits offset xs h e = fits_by (nat_le (2 ^ 64) (offset + length xs)) (not (
 pub piece_goes : (offset : ℕ) (xs : List ℕ) (s t : Held) (r : Result (Unit {0}) InboxError) → Inserts offset xs s t r → is_err (inserted offset xs s) ≡ false → IsOk r
 piece_goes offset xs s t (Ok u) i e = refl
 piece_goes offset xs s t (Err f) i e = absurd (let z : is_err (inserted offset xs s) ≡ true = λ j. is_err (i.1 j) in cc)
-
-over_by : (a b : Bool) (n : ℕ) (t : Held) → nat_le (2 ^ 64) n ≡ a → 2 ^ 64 ≤ n → true ≡ is_err (answer_by a b t)
-over_by true b n t f l = refl
-over_by false b n t f l = absurd (grind (arith, nat_tests))
-
-pub past_overflow : (offset : ℕ) (xs : List ℕ) (h : Held) → 2 ^ 64 ≤ offset + length xs → true ≡ is_err (inserted offset xs h)
-unfolding inserted
-past_overflow offset xs h l = over_by (nat_le (2 ^ 64) (offset + length xs)) (not (is_over h) && nat_lt (h.read + 65536) (offset + length xs)) (offset + length xs) (after_insert offset xs h) refl l
 
 window_by : (a b : Bool) (n : ℕ) (t : Held) → nat_le (2 ^ 64) n ≡ a → n < 2 ^ 64 → b ≡ is_err (answer_by a b t)
 window_by true b n t f l = absurd (grind (arith, nat_tests))

@@ -25,11 +25,6 @@ or_true false = refl
 abbrev run : ℕ → ℕ → Run
 run a b = record { first = a; last = b }
 
--- runs rise from a lower number too
-rise_lower : (low low2 : ℕ) (rs : List Run) → low2 ≤ low → Rise low rs → Rise low2 rs
-rise_lower low low2 [] l h = h
-rise_lower low low2 (r ∷ rs) l h = (omega (arith, h.0), h.1, h.2)
-
 rise_from : (low low2 : ℕ) (rs : List Run) → (0 < length rs → low2 ≤ first_at rs 0) → Rise low rs → Rise low2 rs
 rise_from low low2 [] l h = h
 rise_from low low2 (r ∷ rs) l h = (l (omega arith), h.1, h.2)

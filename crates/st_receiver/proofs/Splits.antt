@@ -26,10 +26,6 @@ at_most_sum [] k = omega arith
 at_most_sum (m ∷ ms) zero = let b = sum-cons m ms in omega (arith, b)
 at_most_sum (m ∷ ms) (suc k) = let h = at_most_sum ms k in let b = sum-cons m ms in omega (arith, h, b)
 
-sum-zeros : (n : ℕ) → sum (replicate n 0) ≡ 0
-sum-zeros zero = grind (arith, common_steps)
-sum-zeros (suc n) = let h = sum-zeros n in let b = sum-cons 0 (replicate n 0) in omega (arith, h, b)
-
 -- ---- the shares of all frames
 
 set_grows : (ms : List ℕ) (k n : ℕ) → sum ms ≤ sum (set ms k (get_or ms k 0 + n))

@@ -57,9 +57,6 @@ span_itself s = record { read = refl; end = refl; aborted = refl }
 span_join : (s t u : Held) → SameSpan s t → SameSpan t u → SameSpan s u
 span_join s t u a b = record { read = b.read ∙ a.read; end = b.end ∙ a.end; aborted = b.aborted ∙ a.aborted }
 
-span_same : (s t u : Held) → t ≡ u → SameSpan s t → SameSpan s u
-span_same s t u e h = subst (SameSpan s) e h
-
 pub span_over : (s t : Held) → SameSpan s t → is_over t ≡ is_over s
 span_over s t e = λ i. is_some (e.end i) || is_some (e.aborted i)
 

@@ -252,17 +252,6 @@ module _ (lanes : Slots SendStream) (flights : List Flight) (b : Bounds) (n : �
 
 -- ---- limits
 
-pub awaited_none : (m : PeerBlocked) (flights : List Flight) (b : Bounds) (limits : List Known) → AreAwaited m flights b limits 0 limits []
-awaited_none m flights b limits = record {
-  goes = λ lanes. tt;
-  each = tt;
-  apart = λ xs. tt;
-  few = omega arith;
-  most = omega arith;
-  all = λ f c. inl c;
-  none = λ e f c. inl c;
-}
-
 limits_cost : (fs : List code.SentFrame) → AllByRecursion IsLimit fs → costs fs ≡ 36 * length fs
 limits_cost [] a = omega arith
 limits_cost (held.Data k o c ∷ fs) a = absurd a.0

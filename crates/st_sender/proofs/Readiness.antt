@@ -6,7 +6,7 @@ use Rattle.st_sender.specs.Sending.{Flight}
 use Rattle.st_sender.specs.Flights.{any_frame, closes}
 use Rattle.st_sender.specs.Lanes.{SendStream, due_in}
 use Rattle.st_sender.specs.declared.bounds.Bounds.{Bounds}
-use Rattle.st_sender.specs.Allowed.{IsAllowed, IsStopped, IsFinished, NoneReady, NoneFinished, IsNone, IsFinishedAt, bounds, lane_ends}
+use Rattle.st_sender.specs.Allowed.{IsAllowed, IsStopped, IsFinished, NoneReady, NoneFinished, IsNone, bounds, lane_ends}
 use Rattle.st_sender.proofs.Lengths.{data_rises}
 
 -- if the lowest byte that is due may not be sent, none may
@@ -28,20 +28,6 @@ pub none_of : (lanes : Slots SendStream) (flights : List Flight) (told sequence 
 none_of lanes flights told sequence room spare e r f = (
   subst (λ n. NoneReady lanes flights (record { spare = n; sequence = sequence; room = room }) 65) e r,
   subst (λ n. NoneFinished lanes flights (record { spare = n; sequence = sequence; room = room }) 65) e f,
-)
-
-pub none_ready_more : (lanes : Slots SendStream) (flights : List Flight) (b : Bounds) (n : ℕ) → NoneReady lanes flights b n → ((l : SendStream) → slot lanes n ≡ Some l → IsStopped flights b n l) → NoneReady lanes flights b (n + 1)
-none_ready_more lanes flights b n before here k l h e = elim (cases_lt k n) [
-  | inl low ↦ before k l low e
-  | inr high ↦ (let same : k ≡ n = omega arith in subst (λ i. IsStopped flights b i l) (sym same) (here l (subst (λ i. slot lanes i ≡ Some l) same e)))
-]
-
-pub finished_of : (lanes : Slots SendStream) (flights : List Flight) (told sequence room spare k code : ℕ) → spare ≡ told - lane_ends lanes flights 0 65
-    → NoneReady lanes flights (record { spare = spare; sequence = sequence; room = room }) 65 → IsFinishedAt lanes flights (record { spare = spare; sequence = sequence; room = room }) k code
-    → IsFinishedAt lanes flights (bounds lanes flights told sequence room) k code × NoneReady lanes flights (bounds lanes flights told sequence room) 65
-finished_of lanes flights told sequence room spare k code e r f = (
-  subst (λ n. IsFinishedAt lanes flights (record { spare = n; sequence = sequence; room = room }) k code) e f,
-  subst (λ n. NoneReady lanes flights (record { spare = n; sequence = sequence; room = room }) 65) e r,
 )
 
 -- a close that is in flight is not due

@@ -1,5 +1,5 @@
 -- Data of the streams in a round.
-use Rattle.std.proofs.Common.{◌≡◌, ◌≢◌, ℕ, ◌+◌, ◌-◌, ◌<◌, ◌≤◌, Bool, true, false, ◌||◌, ◌&&◌, List, [], ◌∷◌, ◌++◌, length, max, refl, sym, ap, subst, ◌∙◌, arith, Some, ◌⊎◌, inl, inr}
+use Rattle.std.proofs.Common.{◌≡◌, ℕ, ◌+◌, ◌-◌, ◌<◌, Bool, true, false, ◌||◌, ◌&&◌, List, [], ◌∷◌, ◌++◌, length, max, refl, sym, ap, subst, ◌∙◌, arith, Some, ◌⊎◌, inl, inr}
 use Rattle.std.specs.Prelude.{nat_eq, nat_lt}
 use Rattle.std.specs.List.{AllByRecursion}
 use Rattle.std.proofs.lemmas.Bool.{cases_lt}
@@ -13,9 +13,9 @@ use Rattle.st_sender.specs.Sending.{Flight, PeerBlocked}
 use Rattle.st_sender.specs.Flights.{flying_end}
 use Rattle.st_sender.specs.Lanes.{SendStream}
 use Rattle.st_sender.specs.Turns.{comes_before, is_among, AreInOrder}
-use Rattle.st_sender.specs.Loads.{same_due, AllApart}
-use Rattle.st_sender.specs.Shown.{known_by, framed}
-use Rattle.st_sender.specs.Allowed.{end_in, end_at, less, left_by, left_beside, costs, raise, raises, serves, IsStopped, MayFly, NoneReady, IsReady, IsReadyAt, AreNext, AreDistinct, in_round, start_of, IsPlaced, IsData, AreServed, IsCutAt, IsRoundOf}
+use Rattle.st_sender.specs.Loads.{same_due}
+use Rattle.st_sender.specs.Shown.{framed}
+use Rattle.st_sender.specs.Allowed.{end_in, end_at, left_by, left_beside, costs, raises, serves, IsStopped, MayFly, NoneReady, IsReady, IsReadyAt, AreNext, AreDistinct, in_round, start_of, IsPlaced, IsData, AreServed, IsRoundOf}
 use Rattle.st_sender.proofs.Turning.{places_order, place_of, not_itself, not_both, all_later, among_append}
 
 -- ---- lists
@@ -70,9 +70,6 @@ bounds_same b c e f h = λ i. record { spare = e i; sequence = f i; room = h i }
 
 pub left_none : (lanes : Slots SendStream) (flights : List Flight) (b : Bounds) → ◌≡◌ {A = Bounds} (left_beside lanes flights b []) b
 left_none lanes flights b = bounds_same (left_beside lanes flights b []) b (omega arith) refl (omega arith)
-
-left_close : (lanes : Slots SendStream) (flights : List Flight) (b : Bounds) (k by : ℕ) (fs : List code.SentFrame) → ◌≡◌ {A = Bounds} (left_beside lanes flights b (held.Close k by ∷ fs)) (left_beside lanes flights (less b 20) fs)
-left_close lanes flights b k by fs = bounds_same (left_beside lanes flights b (held.Close k by ∷ fs)) (left_beside lanes flights (less b 20) fs) (omega arith) refl (omega arith)
 
 left_data : (lanes : Slots SendStream) (flights : List Flight) (b : Bounds) (k o c : ℕ) (fs : List code.SentFrame)
     → ◌≡◌ {A = Bounds} (left_beside lanes flights b (held.Data k o c ∷ fs)) (left_beside lanes flights (left_by b (c + 32) (o + c - end_at lanes flights k)) fs)

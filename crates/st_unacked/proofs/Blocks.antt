@@ -1,5 +1,5 @@
 -- The blocks in which the bytes lie: what is let go, and how much is kept.
-use Rattle.std.proofs.Common.{◌≡◌, ℕ, zero, suc, ◌+◌, ◌-◌, ◌*◌, ◌<◌, ◌≤◌, Bool, true, false, cond, ◌&&◌, List, [], ◌∷◌, ◌++◌, length, filter, Option, Some, None, refl, ap, ◌∙◌, sym, subst, arith, inl, inr}
+use Rattle.std.proofs.Common.{◌≡◌, ℕ, zero, suc, ◌+◌, ◌-◌, ◌*◌, ◌<◌, ◌≤◌, Bool, true, false, cond, ◌&&◌, List, [], ◌∷◌, length, filter, Some, None, refl, ap, ◌∙◌, sym, arith, inl, inr}
 use Rattle.std.specs.Prelude.{if◌then◌else◌, not, is_some, is_none, nat_lt, slice_index}
 use Rattle.std.specs.Ordering.{nat_cmp}
 use Rattle.std.specs.FinMap as fmap
@@ -8,10 +8,10 @@ use Rattle.std.proofs.lemmas.Bool.Decides.{nat_tests}
 use Rattle.st_streams.specs.Table.{is_between, table}
 use Rattle.st_streams.proofs.Tables.{get-table}
 use Rattle.st_unacked.specs.declared.run.Run.{Run}
-use Rattle.st_unacked.specs.Sent.{Sent, rows}
-use Rattle.st_unacked.specs.Runs.{status_at, is_kept, byte_at, shown_by, counted, kept_in, IsTiled}
-use Rattle.st_unacked.specs.Chunks.{Block, ends_past, byte_in, covers, Laid, EachHas, is_held, IsTidy}
-use Rattle.st_unacked.proofs.Counts.{counted-same, counted-append, counted-some, counted-none, counted-all, counted-zero, counted-most, retained, len-table, len-split, shown_count}
+use Rattle.st_unacked.specs.Sent.{rows}
+use Rattle.st_unacked.specs.Runs.{status_at, is_kept, byte_at, shown_by, counted, IsTiled}
+use Rattle.st_unacked.specs.Chunks.{Block, ends_past, byte_in, covers, Laid, EachHas}
+use Rattle.st_unacked.proofs.Counts.{counted-same, counted-append, counted-some, counted-all, counted-zero, counted-most, retained, len-table, len-split, shown_count}
 
 pub test_true : (q e : ℕ) → q < e → nat_lt q e ≡ true
 test_true q e l = grind (arith, nat_tests)
@@ -21,9 +21,6 @@ test_false q e l = grind (arith, nat_tests)
 
 pub true_test : (q e : ℕ) → nat_lt q e ≡ true → q < e
 true_test q e h = grind (arith, nat_tests)
-
-pub false_test : (q e : ℕ) → nat_lt q e ≡ false → e ≤ q
-false_test q e h = grind (arith, nat_tests)
 
 pub before_not : (q e : ℕ) → e ≤ q → not (nat_lt q e) ≡ true
 before_not q e l = grind (arith, nat_tests)

@@ -1,17 +1,16 @@
 -- Neighbouring runs: what keeps them apart, how they are joined, and what lies in front of them.
-use Rattle.std.proofs.Common.{◌≡◌, ◌≢◌, ℕ, zero, suc, ◌+◌, ◌-◌, ◌*◌, ◌^◌, ◌<◌, ◌≤◌, Bool, true, false, cond, ◌&&◌, eqb, List, [], ◌∷◌, ◌++◌, length, map, take, drop, drop_of_length-le, set, get_or, Option, Some, None, IsSome, refl, ap, ◌∙◌, sym, subst, arith, inl, inr}
-use Rattle.std.specs.Prelude.{nat_lt, slice_index, if◌then◌else◌}
+use Rattle.std.proofs.Common.{◌≡◌, ◌≢◌, ℕ, zero, suc, ◌+◌, ◌-◌, ◌^◌, ◌<◌, ◌≤◌, Bool, true, false, cond, ◌&&◌, eqb, List, [], ◌∷◌, ◌++◌, length, map, take, drop, set, get_or, Option, Some, None, IsSome, refl, ap, ◌∙◌, sym, subst, arith}
+use Rattle.std.specs.Prelude.{nat_lt, if◌then◌else◌}
 use Rattle.std.specs.Option.{option_or, option_eq}
 use mathlib.Core.Bool.{beq}
-use Rattle.std.proofs.lemmas.Bool.{cases_lt}
 use Rattle.std.proofs.lemmas.Bool.Decides.{nat_tests}
 use Rattle.std.proofs.lemmas.List.{take_more_set}
-use Rattle.std.proofs.Math.Seq.{drop-cons, take-set-lt, get_or-take, length-take-le}
+use Rattle.std.proofs.Math.Seq.{take-set-lt, get_or-take, length-take-le}
 use Rattle.st_streams.specs.Table.{is_between, table}
 use Rattle.st_unacked.specs.declared.run.Run.{Run}
 use Rattle.st_unacked.specs.declared.run.Status.{Status}
 use Rattle.st_unacked.specs.Sent.{is_by}
-use Rattle.st_unacked.specs.Runs.{status_at, flight_of, is_kept, shown_by, IsTiled, flown, claimed, Differs, Parted, acknowledged_run, failed_run, dropped_run, Rise, end_of, IsJoined, HasMore}
+use Rattle.st_unacked.specs.Runs.{status_at, flight_of, is_kept, shown_by, IsTiled, flown, claimed, Differs, Parted, acknowledged_run, failed_run, dropped_run, Rise, end_of, HasMore}
 use Rattle.st_unacked.proofs.Steps.{no_more, appended, lengthened}
 use Rattle.st_unacked.proofs.Views.{run_end}
 
@@ -83,15 +82,6 @@ parted_longer first (x ∷ y ∷ rs) (suc n) d r l e m h = (h.0, still x.status 
 
 -- ---- a run that is put after the first `count` runs
 
-pub put_first : (first : ℕ) (rs : List Run) (count : ℕ) (r : Run) → count ≡ 0 → 0 < length rs → end_of first (take count rs) < r.end → HasMore first (take count rs) r (take 1 (set rs 0 r))
-put_first first rs count r none l m =
-    subst (λ k. HasMore first (take k rs) r (take 1 (set rs 0 r))) (sym none)
-    (subst (HasMore first [] r) (sym (take_more_set rs 0 r l)) (record {
-      parted = (subst (λ k. end_of first (take k rs) < r.end) none m, tt, tt);
-      ends = refl;
-      status = λ q. refl;
-    }))
-
 module _ (first : ℕ) (rs : List Run) (count n : ℕ) (d r : Run) (some : count ≡ suc n) (within : count ≤ length rs) (parted : Parted first (take count rs)) (further : end_of first (take count rs) < r.end) where
   counts : length (take count rs) ≡ suc n
   counts = length-take-le count rs within ∙ some
@@ -126,40 +116,14 @@ pub record Joining (first : ℕ) (rs ts : List Run) (count i : ℕ) : Type 0 whe
   pub rise : Rise (end_of first (take count ts)) (drop i ts)
   pub same : (q : ℕ) → option_or (status_at (take count ts) q) (status_at (drop i ts) q) ≡ status_at rs q
 
-pub joining_none : (first : ℕ) (rs : List Run) → Rise first rs → Joining first rs rs 0 0
-joining_none first rs h = record { parted = tt; rise = h; same = λ q. refl }
-
 and_then : (g t : Option Status) (b : Bool) (s : Status) → option_or (option_or g (cond b (Some s) None)) t ≡ option_or g (cond b (Some s) t)
 and_then None t true s = refl
 and_then None t false s = refl
 and_then (Some x) t b s = refl
 
-pub joining_more : (first : ℕ) (rs ts us : List Run) (count next i : ℕ) (d r : Run) → i < length ts → r ≡ get_or ts i d → drop (i + 1) us ≡ drop (i + 1) ts
-    → (Parted first (take count ts) → end_of first (take count ts) < r.end → HasMore first (take count ts) r (take next us)) → Joining first rs ts count i → Joining first rs us next (i + 1)
-joining_more first rs ts us count next i d r l at rest puts j =
-    let goes : drop i ts ≡ r ∷ drop (i + 1) ts = drop-cons ts i d l ∙ ap (λ n. get_or ts i d ∷ drop n ts) (let e : suc i ≡ i + 1 = omega arith in e) ∙ ap (λ (x : Run). x ∷ drop (i + 1) ts) (sym at) in
-    let rise : Rise (end_of first (take count ts)) (r ∷ drop (i + 1) ts) = subst (Rise (end_of first (take count ts))) goes j.rise in
-    let more : HasMore first (take count ts) r (take next us) = puts j.parted rise.0 in
-    record {
-      parted = more.parted;
-      rise = subst (λ e. Rise e (drop (i + 1) us)) (sym more.ends) (subst (Rise r.end) (sym rest) rise.1);
-      same = λ q.
-          ap (λ s. option_or s (status_at (drop (i + 1) us) q)) (more.status q)
-          ∙ ap (λ xs. option_or (option_or (status_at (take count ts) q) (cond (nat_lt q r.end) (Some r.status) None)) (status_at xs q)) rest
-          ∙ and_then (status_at (take count ts) q) (status_at (drop (i + 1) ts) q) (nat_lt q r.end) r.status
-          ∙ ap (λ xs. option_or (status_at (take count ts) q) (status_at xs q)) (sym goes)
-          ∙ j.same q;
-    }
-
 or_none : (g : Option Status) → option_or g None ≡ g
 or_none None = refl
 or_none (Some s) = refl
-
-pub joining_all : (first : ℕ) (rs ts : List Run) (count i : ℕ) → length ts ≤ i → Joining first rs ts count i → IsJoined first rs (take count ts)
-joining_all first rs ts count i l j = record {
-  parted = j.parted;
-  same = λ q. sym (or_none (status_at (take count ts) q)) ∙ ap (λ xs. option_or (status_at (take count ts) q) (status_at xs q)) (sym (drop_of_length-le ts l)) ∙ j.same q;
-}
 
 -- ---- what says the same
 

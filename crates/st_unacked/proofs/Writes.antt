@@ -1,16 +1,14 @@
 -- Bytes that are put into blocks.
-use Rattle.std.proofs.Common.{◌≡◌, ℕ, zero, suc, ◌+◌, ◌-◌, ◌*◌, ◌<◌, ◌≤◌, Bool, true, false, cond, List, [], ◌∷◌, ◌++◌, length, take, drop, replicate, min, set, get_or, refl, ap, ◌∙◌, sym, subst, arith, inl, inr, length-append, append_assoc, append-nil}
+use Rattle.std.proofs.Common.{◌≡◌, ℕ, zero, suc, ◌+◌, ◌-◌, ◌<◌, ◌≤◌, Bool, true, false, List, [], ◌∷◌, ◌++◌, length, take, drop, replicate, min, set, get_or, refl, ap, ◌∙◌, sym, subst, arith, inl, inr, length-append, append_assoc, append-nil}
 use Rattle.std.specs.Prelude.{if◌then◌else◌, not, nat_lt, slice_index}
 use Rattle.std.proofs.lemmas.Bool.{cases_lt}
-use Rattle.std.proofs.lemmas.Bool.Decides.{nat_tests}
 use Rattle.std.proofs.lemmas.List.{get_or_append_left, get_or-append_right, get_or-drop, length-drop, length-take, length-replicate, get_or-take, take_all, drop-drop, take-append-drop}
 use Rattle.std.proofs.lemmas.List.Edits.{get_or-between}
 use Rattle.std.specs.List.{slice_range}
 use Rattle.std.proofs.Math.Seq.{drop-cons}
-use Rattle.st_unacked.specs.Runs.{counted}
 use Rattle.st_unacked.specs.Chunks.{Block, ends_past, byte_in, covers, Laid, EachHas, room_behind, written, last_written, padded, IsCut, HasBytes}
 use Rattle.st_unacked.proofs.Counts.{counted-some}
-use Rattle.st_unacked.proofs.Blocks.{test_true, test_false, true_test, false_test, laid_from, not_before, before_not}
+use Rattle.st_unacked.proofs.Blocks.{test_true, test_false, true_test, laid_from, not_before, before_not}
 
 -- ---- some bytes written over others
 
@@ -190,20 +188,6 @@ part_byte c cs from to k xs l e n m =
     ap (λ ys. slice_index ys k) e ∙ get_or-between c.bytes (from - c.at) (min 4096 (to - c.at)) k 0 (omega (arith, n, m))
     ∙ ap (slice_index c.bytes) (let f : from - c.at + k ≡ from + k - c.at = omega (arith, l) in f)
     ∙ sym (at_block c cs (from + k) (test_true (from + k - c.at) 4096 (omega (arith, n, m, l))) (omega (arith, l))).1
-
--- a block that ends before an offset ends before all later ones
-pub still_past : (c : Block) (from q : ℕ) → ends_past from c ≡ false → from ≤ q → ends_past q c ≡ false
-still_past c from q e l = test_false (q - c.at) 4096 (let f : 4096 ≤ from - c.at = false_test (from - c.at) 4096 e in omega (arith, f, l))
-
--- bytes from an offset on, and more bytes after them
-pub bytes_more : (f : ℕ → ℕ) (all part new : List ℕ) (from at k : ℕ) → new ≡ all ++ part → length all ≡ at - from → from ≤ at → ((k : ℕ) → k < length all → slice_index all k ≡ f (from + k)) → ((k : ℕ) → k < length part → slice_index part k ≡ f (at + k))
-    → k < length new → slice_index new k ≡ f (from + k)
-bytes_more f all part new from at k e n o was more l = elim (cases_lt k (length all)) [
-  | inl m ↦ ap (λ xs. slice_index xs k) e ∙ get_or_append_left all part 0 k m ∙ was k m
-  | inr m ↦ ap (λ xs. slice_index xs k) e ∙ get_or-append_right all part (length all) k 0 refl m
-      ∙ more (k - length all) (let t : length new ≡ length all + length part = ap length e ∙ length-append all part in omega (arith, t, l, m))
-      ∙ ap f (let g : at + (k - length all) ≡ from + k = omega (arith, n, m, o) in g)
-]
 
 -- ---- bytes that are cut, one block after another
 

@@ -111,16 +111,6 @@ pushed_flight ps p q low last h s e =
       | inr new ↦ new.1
     ]
 
--- what was sent last is found by its sequence
-pub load_at_end : (ps : List Flight) (p : Flight) (low last : ℕ) → IsSequenced low ps last → p.sequence ≡ last + 1 → flight_at (ps ++ p ∷ []) p.sequence ≡ Some p
-load_at_end [] p low last h s = flight_here p [] p.sequence refl
-load_at_end (q ∷ ps) p low last h s =
-    let none : flight_at (q ∷ ps) p.sequence ≡ None = no_later (q ∷ ps) p.sequence low last h (omega (arith, s)) in
-    elim (cases_eq q.sequence p.sequence) [
-      | inl same ↦ absurd (let here : flight_at (q ∷ ps) p.sequence ≡ Some q = flight_here q ps p.sequence same in cc)
-      | inr apart ↦ flight_there q (ps ++ p ∷ []) p.sequence apart ∙ load_at_end ps p (q.sequence + 1) last h.1 s
-    ]
-
 -- ---- tickets
 
 at_here : (t : Open) (ts : List Open) (n : ℕ) → t.number ≡ n → ticket_at (t ∷ ts) n ≡ Some t

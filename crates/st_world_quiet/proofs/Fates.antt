@@ -1,5 +1,5 @@
 -- The parts of a run that is played by a list of fates, by the calls that play them.
-use Rattle.std.proofs.Common.{◌≡◌, ◌≢◌, ℕ, zero, suc, ◌+◌, ◌-◌, ◌^◌, ◌<◌, ◌≤◌, inl, inr, List, [], ◌∷◌, ◌++◌, length, map, slice_get, slice_index_or, sum, Some, refl, sym, ap, subst, ◌∙◌, arith, ℤ, pos}
+use Rattle.std.proofs.Common.{◌≡◌, ◌≢◌, ℕ, zero, suc, ◌+◌, ◌-◌, ◌^◌, ◌<◌, ◌≤◌, inl, inr, List, [], ◌∷◌, ◌++◌, map, sum, refl, sym, ap, subst, ◌∙◌, arith, ℤ, pos}
 use Rattle.std.proofs.lemmas.List.Sums.{sum_by-cons}
 use Rattle.std.proofs.lemmas.Bool.{cases_lt}
 use Rattle.st_world_parts.specs.Sides.{Client, Server}
@@ -9,30 +9,15 @@ use Rattle.st_world_quiet.specs.Losses as losses
 use Rattle.st_world_quiet.specs.Worlds.{Met}
 use Rattle.st_world_quiet.specs.HopRounds.{reads}
 use Rattle.st_world_quiet.specs.LostWorlds as worlds
-use Rattle.st_world_quiet.specs.LostWorlds.{Course, FatedRounds, carried_by, carried_in, course_at, following, gives_by, going_by, losing_by, puts_by, stranding_by}
+use Rattle.st_world_quiet.specs.LostWorlds.{Course, FatedRounds, carried_by, carried_in, following, gives_by, going_by, losing_by, puts_by, stranding_by}
 use Rattle.st_world_quiet.specs.declared.fate.Fate.{Fate}
 use Rattle.st_world_quiet.specs.declared.fate.Fate.TheVariants.{Delivered, PrepareLost, AnswerLost}
 use Rattle.st_world_quiet.specs.Playing.{Continues, Sends, iv_of, read_limit}
-use Rattle.st_world_quiet.specs.Fates.{GoesOnFated, HasPlayed, NumberedFate, NumberedFates, all_lost, carried_with, course_of, courses_of, kinds_of, lost_by}
+use Rattle.st_world_quiet.specs.Fates.{GoesOnFated, HasPlayed, NumberedFate, NumberedFates, all_lost, carried_with, course_of, kinds_of, lost_by}
 use Rattle.st_world_quiet.proofs.Joins.{met_join}
 use Rattle.st_world_quiet.proofs.PlayedRuns.{met_on, still, then}
 
 -- ---- a list of fates
-
-pub course_inside : (fates : List Fate) (i : ℕ) (fate : Fate) → i < length fates → slice_index_or fates i Delivered ≡ fate → course_of fate ≡ course_at (courses_of fates) i
-course_inside [] i fate l e = absurd (omega (arith, l))
-course_inside (f ∷ fs) zero fate l e = ap course_of (sym e)
-course_inside (f ∷ fs) (suc i) fate l e = course_inside fs i fate (omega (arith, l)) e
-
-pub course_got : (fates : List Fate) (i : ℕ) (fate : Fate) → slice_get fates i ≡ Some fate → course_of fate ≡ course_at (courses_of fates) i
-course_got [] i fate e = absurd (cc)
-course_got (f ∷ fs) zero fate e = let same : f ≡ fate = cc in ap course_of (sym same)
-course_got (f ∷ fs) (suc i) fate e = course_got fs i fate e
-
-pub course_behind : (fates : List Fate) (i : ℕ) → length fates ≤ i → worlds.Arrives ≡ course_at (courses_of fates) i
-course_behind [] i l = refl
-course_behind (f ∷ fs) zero l = absurd (omega (arith, l))
-course_behind (f ∷ fs) (suc i) l = course_behind fs i (omega (arith, l))
 
 lost_one : (f : Fate) (fs : List Fate) → losses.losses (kinds_of (f ∷ fs)) ≡ lost_by f + losses.losses (kinds_of fs)
 lost_one Delivered fs = omega arith

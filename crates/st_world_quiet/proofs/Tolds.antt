@@ -1,14 +1,13 @@
 -- What an event reported, and whether it succeeded.
-use Rattle.std.proofs.Common.{◌≡◌, ℕ, Bool, true, false, List, [], ◌∷◌, refl, sym, ap, subst, ◌∙◌, ℤ, inl, inr, Option, None, Some, Result, Ok, Err, is_ok}
+use Rattle.std.proofs.Common.{◌≡◌, ℕ, Bool, true, false, List, [], ◌∷◌, refl, sym, ap, subst, ◌∙◌, ℤ, inl, inr, Option, None, Some, Result, Ok, Err}
 use Rattle.std.specs.Prelude.{MatchBool}
 use Rattle.st_end.specs.declared.error.EndError.{EndError}
-use Rattle.st_end.specs.Calls.{open_stream}
 use Rattle.st_world_parts.specs.Sides.{Client}
-use Rattle.st_world_parts.specs.State.{World, end_at}
-use Rattle.st_world_parts.specs.Events.{Event, OpenStream, Opened, Send, Told}
-use Rattle.st_world.specs.Steps.{Happens, Step}
+use Rattle.st_world_parts.specs.State.{World}
+use Rattle.st_world_parts.specs.Events.{Event, Opened, Send, Told}
+use Rattle.st_world.specs.Steps.{Happens}
 use Rattle.st_world_quiet.specs.declared.stop.Stop.TheVariants.{Refused}
-use Rattle.st_world_quiet.specs.Playing.{OpensNone, Sends, SendsNone, Stops, Tells, is_sent, iv_of, opened_in}
+use Rattle.st_world_quiet.specs.Playing.{Sends, SendsNone, Stops, Tells, is_sent, iv_of, opened_in}
 
 -- if the world notes no lack of memory, the event succeeded
 pub tells_met : (w v : World) (event : Event) (told : Told) → Happens w event told v → v.refused ≡ false → Tells event told w v
@@ -37,13 +36,3 @@ send_tells number iv now told w v is tells = by (subst (λ x. Tells (Send Client
 opened_by : (r : Result ℕ EndError) (told : Told) (k : ℕ) → told ≡ Opened r → opened_in told ≡ Some k → told ≡ Opened (Ok k)
 opened_by (Ok j) told k is here = let same : ◌≡◌ {A = Option ℕ} (Some j) (Some k) = ap opened_in (sym is) ∙ here in is ∙ (let number : j ≡ k = cc in ap (λ (i : ℕ). Opened (Ok i)) number)
 opened_by (Err why) told k is here = absurd (let same : ◌≡◌ {A = Option ℕ} None (Some k) = ap opened_in (sym is) ∙ here in cc)
-
-unopened_by : (r : Result ℕ EndError) (told : Told) → told ≡ Opened r → opened_in told ≡ None → is_ok r ≡ false
-unopened_by (Ok j) told is here = absurd (let same : ◌≡◌ {A = Option ℕ} (Some j) None = ap opened_in (sym is) ∙ here in cc)
-unopened_by (Err why) told is here = refl
-
-pub open_tells : (told : Told) (k : ℕ) (w v : World) → Tells (OpenStream Client) told w v → opened_in told ≡ Some k → Step w (OpenStream Client) (Opened (Ok k)) v
-open_tells told k w v t here = subst (λ x. Step w (OpenStream Client) x v) (opened_by (open_stream (end_at w Client)).0 told k t.1.0 here) t.1
-
-pub open_none : (told : Told) (w v : World) → Tells (OpenStream Client) told w v → opened_in told ≡ None → OpensNone w
-open_none told w v t here = unopened_by (open_stream (end_at w Client)).0 told t.1.0 here
