@@ -5,7 +5,7 @@ ghost use Rattle.std.specs.Str.Lines.{lines};
 ghost use Rattle.st_hop.specs.Seen.{way_seen};
 ghost use Rattle.st_hop.specs.Table.{is_way};
 ghost use Rattle.ilpstream_settings.specs.Faults.{HasGoodLines};
-ghost use Rattle.ilpstream_settings.specs.Table.{name_of as name_by};
+ghost use Rattle.ilpstream_settings.specs.Table.{name_of as name_by, words_of as words_by};
 ghost use Rattle.ilpstream_settings.specs.Whole.{BreaksWhole, IsFirstRoute, IsSaid, IsStep, IsWhole, IsWholeFault, are_routes, is_one_of, routes_of};
 ghost use Rattle.ilpstream_settings.specs.Whole as specs;
 
@@ -151,6 +151,14 @@ impl<'a, A: Allocator + Copy> Lines<'a, A> {
             Said::Bad => Ok(Step::Bad),
         }
     }
+
+    /// Adds what the line of this number says.
+    fn take_text(&mut self, alloc: A, line: usize, text: &'a str) -> Result<Step, AllocError>
+        ensures { IfOk result (IsStep (words_by text.now) line self.old.names.keys self.old.routes.items self.new.names.keys self.new.routes.items) }
+    {
+        let words = words_of(alloc, text)?;
+        self.take_line(alloc, line, &words)
+    }
 }
 
 /// Adds the prefix of a route, or returns the rule that the route breaks after others of these prefixes.
@@ -214,8 +222,7 @@ fn lines_fault<A: Allocator + Copy>(
     let mut read = Lines::new(alloc);
     for index in 0..lines.len() {
         let line = index + 1;
-        let words = words_of(alloc, lines[index])?;
-        let step = read.take_line(alloc, line, &words)?;
+        let step = read.take_text(alloc, line, lines[index])?;
         match step {
             Step::Added => {}
             Step::SameName => {

@@ -8,26 +8,23 @@ loop-index-init g c = rw (c.new-read.ensures.0, c.new-read.ensures.1) (read_none
 
 pub returns-in-SameName : goal.returns-in-SameName
 returns-in-SameName g c =
-    let are : map (λ w. w.now) c.deref.result.now ≡ words_of (get_or c.args.lines.now c.loop-index.index (record { ref_ptr = (0, 0); now = [] })).now = rw c.deref.ensures.value c.in_ok-words.ensures in
     inl (
       refl,
-      name_again c.args.lines.now c.loop-index.index (record { ref_ptr = (0, 0); now = [] }) (map (λ w. w.now) c.deref.result.now) c.loop-index.read.names.keys
-          c.loop-index.read.routes.items c.loop-index-test.true are c.loop-index.invariant (rw c.in-SameName.is at c.in_ok-step.ensures),
+      name_again c.args.lines.now c.loop-index.index (record { ref_ptr = (0, 0); now = [] }) (words_of (get_or c.args.lines.now c.loop-index.index (record { ref_ptr = (0, 0); now = [] })).now) c.loop-index.read.names.keys
+          c.loop-index.read.routes.items c.loop-index-test.true refl c.loop-index.invariant (rw c.in-SameName.is at c.in_ok-step.ensures),
     )
 
 pub returns-in-Bad : goal.returns-in-Bad
 returns-in-Bad g c = λ good.
-    let are : map (λ w. w.now) c.deref.result.now ≡ words_of (get_or c.args.lines.now c.loop-index.index (record { ref_ptr = (0, 0); now = [] })).now = rw c.deref.ensures.value c.in_ok-words.ensures in
-    absurd (bad_here c.args.lines.now c.loop-index.index (record { ref_ptr = (0, 0); now = [] }) (map (λ w. w.now) c.deref.result.now) c.loop-index.read.names.keys
-    c.loop-index.read.routes.items c.loop-index-test.true are c.loop-index.invariant (rw c.in-Bad.is at c.in_ok-step.ensures) good)
+    absurd (bad_here c.args.lines.now c.loop-index.index (record { ref_ptr = (0, 0); now = [] }) (words_of (get_or c.args.lines.now c.loop-index.index (record { ref_ptr = (0, 0); now = [] })).now) c.loop-index.read.names.keys
+    c.loop-index.read.routes.items c.loop-index-test.true refl c.loop-index.invariant (rw c.in-Bad.is at c.in_ok-step.ensures) good)
 
 pub loop-index-preserved : goal.loop-index-preserved
 loop-index-preserved g c =
-    let are : map (λ w. w.now) c.deref.result.now ≡ words_of (get_or c.args.lines.now c.loop-index.index (record { ref_ptr = (0, 0); now = [] })).now = rw c.deref.ensures.value c.in_ok-words.ensures in
-    read_more c.args.lines.now c.loop-index.index (record { ref_ptr = (0, 0); now = [] }) (map (λ w. w.now) c.deref.result.now) c.loop-index.read.names.keys
-    c.loop-index.read.routes.items c.loop-index-test.true are c.loop-index.invariant c.take_line.new.self.names.keys c.take_line.new.self.routes.items (rw c.in-Added.is at c.in_ok-step.ensures)
+    read_more c.args.lines.now c.loop-index.index (record { ref_ptr = (0, 0); now = [] }) (words_of (get_or c.args.lines.now c.loop-index.index (record { ref_ptr = (0, 0); now = [] })).now) c.loop-index.read.names.keys
+    c.loop-index.read.routes.items c.loop-index-test.true refl c.loop-index.invariant c.take_text.new.self.names.keys c.take_text.new.self.routes.items (rw c.in-Added.is at c.in_ok-step.ensures)
 
 pub returns : goal.returns
 returns g c =
-    found_here c.args.lines.now c.loop-index.index c.loop-index.read.names.keys c.loop-index.read.routes.items c.loop-index-test.false c.loop-index.invariant c.len.result c.deref-2.result.now
-    c.routes_fault.result c.len.ensures.len c.deref-2.ensures.value c.routes_fault.ensures
+    found_here c.args.lines.now c.loop-index.index c.loop-index.read.names.keys c.loop-index.read.routes.items c.loop-index-test.false c.loop-index.invariant c.len.result c.deref.result.now
+    c.routes_fault.result c.len.ensures.len c.deref.ensures.value c.routes_fault.ensures
