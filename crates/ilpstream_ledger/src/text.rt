@@ -65,8 +65,7 @@ fn accounts_text<S: Alter>(alloc: Global, books: &Books<S>) -> Result<Vec<u8>, A
 fn starts_text(alloc: Global, starts: u64) -> Result<String, AllocError>
     ensures { IfOk result (λ text. string_bytes text ≡ texts.starts_text starts) }
 {
-    let text = format!(in alloc; "starts {starts}\n")?;
-    Ok(text)
+    format!(in alloc; "starts {starts}\n")
 }
 
 /// A line for each account, and one for the starts, as `ilpstream ledger` prints them. Fails if memory is refused.

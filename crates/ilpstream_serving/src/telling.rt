@@ -223,8 +223,7 @@ pub(crate) fn tell_set_back<R: Clock>(rt: &R, log: Log<'_>, set_back: Option<u64
 fn address_text(alloc: Global, address: SocketAddr) -> Result<String, AllocError>
     ensures { IfOk result (λ text. string_bytes text ≡ socket_text address) }
 {
-    let text = format!(in alloc; "{address}")?;
-    Ok(text)
+    format!(in alloc; "{address}")
 }
 
 /// Reports a connection from this address on which no request was answered.
