@@ -155,9 +155,7 @@ fn link_text(alloc: Global, fault: u8, status: Option<u16>) -> Result<String, Al
     ensures { IfOk result (λ text. string_bytes text ≡ spec.failure_text (Some (brief.Link fault status))) }
 {
     match status {
-        Some(status) => {
-            format!(in alloc; " (last failure: link fault {fault} status {status})")
-        }
+        Some(status) => { format!(in alloc; " (last failure: link fault {fault} status {status})") }
         None => format!(in alloc; " (last failure: link fault {fault})"),
     }
 }
@@ -229,7 +227,5 @@ pub fn shown(alloc: Global, progress: &Progress) -> Result<String, AllocError>
     let part = part_text(alloc, bytes, length)?;
     let rate = rate(gained, millis);
     let tail = tail_text(alloc, progress)?;
-    format!(in alloc;
-        "\r{bytes} bytes{part}, {rate} bytes/s, {units} units{tail}\x1b[K\r"
-    )
+    format!(in alloc; "\r{bytes} bytes{part}, {rate} bytes/s, {units} units{tail}\x1b[K\r")
 }

@@ -32,9 +32,7 @@ fn status_text(
 ) -> Result<String, AllocError>
     ensures { IfOk result (λ text. string_bytes text ≡ spec.status_text neighbour fault status) }
 {
-    format!(in alloc;
-        "exchange neighbour={neighbour} cause=link fault={fault} status={status}\n"
-    )
+    format!(in alloc; "exchange neighbour={neighbour} cause=link fault={fault} status={status}\n")
 }
 
 fn reject_front(alloc: Global, neighbour: usize, code: &[u8; 3]) -> Result<String, AllocError>
@@ -225,9 +223,7 @@ fn account_front(
         held,
         ..
     } = totals;
-    format!(in alloc;
-        "totals neighbour={neighbour} claims={claims} dues={dues} held={held} "
-    )
+    format!(in alloc; "totals neighbour={neighbour} claims={claims} dues={dues} held={held} ")
 }
 
 fn account_back(alloc: Global, totals: AccountCounts) -> Result<String, AllocError>
@@ -240,9 +236,7 @@ fn account_back(alloc: Global, totals: AccountCounts) -> Result<String, AllocErr
         refused,
         ..
     } = totals;
-    format!(in alloc;
-        "fulfilled={fulfilled} rejected={rejected} lost={lost} refused={refused}\n"
-    )
+    format!(in alloc; "fulfilled={fulfilled} rejected={rejected} lost={lost} refused={refused}\n")
 }
 
 fn account_text(
