@@ -1,5 +1,6 @@
 -- A world after an event at a hop, by the parts that it changed.
-use Rattle.std.proofs.Common.{◌≡◌, ◌≢◌, ℕ, ◌<◌, Bool, true, ◌||◌, List, length, set, get_or, slice_get, refl, sym, ap, subst, ◌∙◌, ℤ, Option, Some, inl, inr}
+use Rattle.std.proofs.Common.{◌≡◌, ◌≢◌, ℕ, ◌<◌, Bool, true, ◌||◌, List, length, set, get_or, slice_get, refl, sym, ap, subst, ◌∙◌, ℤ, Option, Some, inl, inr, Result, IfOk, OnErr}
+use Rattle.std.proofs.lemmas.Result.{IfOk-weaker, on_err_weaker}
 use Rattle.std.proofs.lemmas.Option.{slice_get_read}
 use Rattle.st_hop.specs.declared.ticket.Open.{Open}
 use Rattle.st_hop.specs.Hop.{Hop}
@@ -68,9 +69,9 @@ module _ (ends : Both Party) (ns : List Node) (lg : Both Led) (r : Bool) (t : Le
       ])
 
   -- an outcome arrives
-  pub back_hop_meets : (link prev j : ℕ) (now : ℤ) (z : SentPrepare) (outcome : Option (List ℕ)) (told : Told) (m : Node) (ks : Links) → link ≢ prev → prev ≡ prev_link link way → HopsBack link prev way z j outcome now told n m ls ks
+  back_meets : (link prev j : ℕ) (now : ℤ) (z : SentPrepare) (outcome : Option (List ℕ)) (told : Told) (m : Node) (ks : Links) → link ≢ prev → prev ≡ prev_link link way → HopsBack link prev way z j outcome now told n m ls ks
       → BackAt (in_world t ls) link way j now z outcome (AtHop i) told (in_world (left ends (set ns i m) lg r) ks)
-  back_hop_meets link prev j now z outcome told m ks apart at_prev met =
+  back_meets link prev j now z outcome told m ks apart at_prev met =
       let after : World = of_parts ends (set ns i m) ks lg r in
       let S : Left → Type 0 = λ s. BackAt (in_world s ls) link way j now z outcome (AtHop i) told after in
       let O : Option Node → Type 0 = λ o. BackAtHop w link way j z outcome now i o told after in
@@ -100,3 +101,11 @@ module _ (ends : Both Party) (ns : List Node) (lg : Both Led) (r : Bool) (t : Le
                   ∙ ap (λ (u : World). with_answer u (prev_link link way) way g) (taken_world booked v link way j),
             ))
       ]))
+
+  pub back_hop_meets : {T E : Type 0} (x : Result T E) (told : T → Told) (link prev j : ℕ) (now : ℤ) (z : SentPrepare) (outcome : Option (List ℕ)) (m : Node) (ks : Links) → link ≢ prev → prev ≡ prev_link link way → IfOk x (λ y. HopsBack link prev way z j outcome now (told y) n m ls ks)
+      → IfOk x (λ y. BackAt (in_world t ls) link way j now z outcome (AtHop i) (told y) (in_world (left ends (set ns i m) lg r) ks))
+  back_hop_meets x told link prev j now z outcome m ks apart at_prev = IfOk-weaker x _ _ (λ y. back_meets link prev j now z outcome (told y) m ks apart at_prev)
+
+  -- the hop is put back, if there is an error
+  pub hop_same : {T E : Type 0} (x : Result T E) (m : Node) → OnErr x (m ≡ n) → OnErr x (left ends (set ns i m) lg r ≡ t)
+  hop_same x m = on_err_weaker x (λ e. ap (λ (k : Node). left ends (set ns i k) lg r) e ∙ ap (λ (ms : List Node). left ends ms lg r) (set_here ns i n is_node) ∙ base)

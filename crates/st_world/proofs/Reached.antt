@@ -1,20 +1,21 @@
 -- Events by the place of their arrival, and runs.
-use Rattle.std.proofs.Common.{◌≡◌, ℕ, zero, suc, ◌+◌, ◌<◌, ◌≤◌, Bool, true, false, cond, nat_eq, List, [], ◌∷◌, ◌++◌, length, take, get_or, refl, sym, ap, subst, ◌∙◌, arith, ℤ, Option, None, Some, inl, inr, is_some, nat_lt, slice_get}
+use Rattle.std.proofs.Common.{◌≡◌, ℕ, zero, suc, ◌+◌, ◌<◌, ◌≤◌, Bool, true, false, cond, nat_eq, List, [], ◌∷◌, ◌++◌, length, take, get_or, refl, sym, ap, subst, ◌∙◌, arith, ℤ, Option, None, Some, inl, inr, is_some, nat_lt, slice_get, Result, Ok, Err, IfOk}
 use Rattle.std.specs.Prelude.{MatchOption, IfSome}
 use Rattle.std.specs.Borrow.{Bor}
+use Rattle.std.proofs.lemmas.Result.{IfOk-weaker}
 use Rattle.std.proofs.lemmas.Option.{slice_get_past, slice_get_read}
 use Rattle.std.proofs.lemmas.List.{take_more, map_push}
 use Rattle.std.proofs.lemmas.Bool.Decides.{nat_tests}
 use Rattle.st_world_parts.specs.Sides.{Side, Client, Server}
-use Rattle.st_world_parts.specs.State.{World, Node, SentPrepare, Place, AtEnd, AtHop, far, nth, direction_at}
+use Rattle.st_world_parts.specs.State.{World, Node, SentPrepare, SentAnswer, Place, AtEnd, AtHop, far, near, nth, direction_at}
 use Rattle.st_world_parts.specs.Events as events
 use Rattle.st_world_parts.specs.Events.{Told, Silent, IsEvent}
-use Rattle.st_world.specs.Steps.{Meets, Happens, Arrives, RefusesArrival}
+use Rattle.st_world.specs.Steps.{Meets, Happens, Arrives, RefusesArrival, BackAt, Back, AnswerBack}
 use Rattle.st_world.specs.Runs.{Run, opening}
 use Rattle.st_world.specs.declared.event.Event.{Event}
 use Rattle.st_world.specs.Seen.{event_seen, events_seen}
 use Rattle.st_world.specs.Places.{Links}
-use Rattle.st_world.specs.Left.{Left, in_world, MeetsAt, IsReached}
+use Rattle.st_world.specs.Left.{Left, in_world, lacks, MeetsAt, MayLack, IsReached}
 
 is_below : (i n : ℕ) → nat_lt i n ≡ true → i < n
 is_below i n e = grind (arith, nat_tests)
@@ -47,20 +48,72 @@ arrives_at w after link way which now p told here met = elim met [
 ]
 
 -- on a way that is known
-pub arrives_on : (w after : World) (link : ℕ) (way side : Side) (which : ℕ) (now : ℤ) (p : SentPrepare) (told : Told) → way ≡ side → nth (direction_at w link way).prepares which ≡ Some p → MeetsAt w link side which now p (far w link side) told after → Meets w (events.Arrive link way which now) told after
-arrives_on w after link way side which now p told is here met = arrives_at w after link way which now p told here (subst (λ (x : Side). MeetsAt w link x which now p (far w link x) told after) (sym is) met)
+pub arrives_on : {T E : Type 0} (r : Result T E) (told : T → Told) (w after : World) (link : ℕ) (way side : Side) (which : ℕ) (now : ℤ) (p : SentPrepare) → way ≡ side → nth (direction_at w link way).prepares which ≡ Some p → IfOk r (λ t. MeetsAt w link side which now p (far w link side) (told t) after)
+    → IfOk r (λ t. Meets w (events.Arrive link way which now) (told t) after)
+arrives_on r told w after link way side which now p is here =
+    IfOk-weaker r _ _ (λ t met. arrives_at w after link way which now p (told t) here (subst (λ (x : Side). MeetsAt w link x which now p (far w link x) (told t) after) (sym is) met))
 
 -- at the place where it comes
-pub meets_there : (w after : World) (link : ℕ) (way : Side) (which : ℕ) (now : ℤ) (p : SentPrepare) (place : Place) (told : Told) → far w link way ≡ place → MeetsAt w link way which now p place told after → MeetsAt w link way which now p (far w link way) told after
-meets_there w after link way which now p place told is met = subst (λ (x : Place). MeetsAt w link way which now p x told after) (sym is) met
+pub meets_there : {T E : Type 0} (r : Result T E) (told : T → Told) (w after : World) (link : ℕ) (way : Side) (which : ℕ) (now : ℤ) (p : SentPrepare) (place : Place) → far w link way ≡ place → IfOk r (λ t. MeetsAt w link way which now p place (told t) after)
+    → IfOk r (λ t. MeetsAt w link way which now p (far w link way) (told t) after)
+meets_there r told w after link way which now p place is = subst (λ (x : Place). IfOk r (λ t. MeetsAt w link way which now p x (told t) after)) (sym is)
 
-pub meets_below : (w after : World) (link hop : ℕ) (which : ℕ) (now : ℤ) (p : SentPrepare) (told : Told) → link ≡ hop + 1 → MeetsAt w (hop + 1) Server which now p (AtHop hop) told after → MeetsAt w link Server which now p (far w link Server) told after
-meets_below w after link hop which now p told e met = meets_there w after link Server which now p (AtHop hop) told (down_hop w link hop e) (subst (λ (l : ℕ). MeetsAt w l Server which now p (AtHop hop) told after) (sym e) met)
+pub meets_below : {T E : Type 0} (r : Result T E) (told : T → Told) (w after : World) (link hop : ℕ) (which : ℕ) (now : ℤ) (p : SentPrepare) → link ≡ hop + 1 → IfOk r (λ t. MeetsAt w (hop + 1) Server which now p (AtHop hop) (told t) after)
+    → IfOk r (λ t. MeetsAt w link Server which now p (far w link Server) (told t) after)
+meets_below r told w after link hop which now p e met =
+    meets_there r told w after link Server which now p (AtHop hop) (down_hop w link hop e) (subst (λ (l : ℕ). IfOk r (λ t. MeetsAt w l Server which now p (AtHop hop) (told t) after)) (sym e) met)
+
+-- ---- outcomes
+
+-- at the place where it comes back
+pub backs_there : {T E : Type 0} (r : Result T E) (told : T → Told) (w after : World) (link : ℕ) (way : Side) (j : ℕ) (now : ℤ) (p : SentPrepare) (outcome : Option (List ℕ)) (place : Place) → near w link way ≡ place → IfOk r (λ t. BackAt w link way j now p outcome place (told t) after)
+    → IfOk r (λ t. BackAt w link way j now p outcome (near w link way) (told t) after)
+backs_there r told w after link way j now p outcome place is = subst (λ (x : Place). IfOk r (λ t. BackAt w link way j now p outcome x (told t) after)) (sym is)
+
+pub backs_below : {T E : Type 0} (r : Result T E) (told : T → Told) (w after : World) (link hop : ℕ) (j : ℕ) (now : ℤ) (p : SentPrepare) (outcome : Option (List ℕ)) → link ≡ hop + 1 → IfOk r (λ t. BackAt w (hop + 1) Client j now p outcome (AtHop hop) (told t) after)
+    → IfOk r (λ t. BackAt w link Client j now p outcome (near w link Client) (told t) after)
+backs_below r told w after link hop j now p outcome e met =
+    backs_there r told w after link Client j now p outcome (AtHop hop) (down_hop w link hop e) (subst (λ (l : ℕ). IfOk r (λ t. BackAt w l Client j now p outcome (AtHop hop) (told t) after)) (sym e) met)
+
+-- of a Prepare that is there, on a way that is known
+pub goes_back : {T E : Type 0} (r : Result T E) (told : T → Told) (w after : World) (link : ℕ) (way side : Side) (j : ℕ) (now : ℤ) (outcome : Option (List ℕ)) (o : Option SentPrepare) (p : SentPrepare) → way ≡ side → o ≡ Some p → IfOk r (λ t. BackAt w link side j now p outcome (near w link side) (told t) after)
+    → IfOk r (λ t. Back w link way j now outcome o (told t) after)
+goes_back r told w after link way side j now outcome o p is here met =
+    subst (λ (x : Option SentPrepare). IfOk r (λ t. Back w link way j now outcome x (told t) after)) (sym here)
+    (subst (λ (x : Side). IfOk r (λ t. BackAt w link x j now p outcome (near w link x) (told t) after)) (sym is) met)
+
+-- of an answer that is there
+pub answers_back : {T E : Type 0} (r : Result T E) (told : T → Told) (w after : World) (link : ℕ) (way : Side) (j : ℕ) (now : ℤ) (g : SentAnswer) (put : ℕ) (bytes : List ℕ) → put ≡ g.which → bytes ≡ g.bytes → nth (direction_at w link way).given j ≡ Some g
+    → IfOk r (λ t. Back w link way j now (Some bytes) (nth (direction_at w link way).prepares put) (told t) after)
+    → IfOk r (λ t. Meets w (events.AnswerArrives link way j now) (told t) after)
+answers_back r told w after link way j now g put bytes at_put same here =
+    let P : Option SentAnswer → Told → Type 0 = λ o x. AnswerBack w link way j now o x after in
+    let Q : ℕ → List ℕ → Told → Type 0 = λ n xs x. Back w link way j now (Some xs) (nth (direction_at w link way).prepares n) x after in
+    IfOk-weaker r _ _ (λ t met. inl (subst (λ (o : Option SentAnswer). P o (told t)) (sym here) (subst (λ (n : ℕ). Q n g.bytes (told t)) at_put (subst (λ (xs : List ℕ). Q put xs (told t)) same met))))
+
+-- none will arrive
+pub faults : {T E : Type 0} (r : Result T E) (told : T → Told) (w after : World) (link : ℕ) (way : Side) (which : ℕ) (now : ℤ) → IfOk r (λ t. Back w link way 0 now None (nth (direction_at w link way).prepares which) (told t) after)
+    → IfOk r (λ t. Meets w (events.Fault link way which now) (told t) after)
+faults r told w after link way which now = IfOk-weaker r _ _ (λ t met. inl met)
 
 -- ---- events
 
 pub happens_as : (w : World) (event same : events.Event) (told : Told) (after : World) → event ≡ same → IsEvent same → Meets w same told after → Happens w event told after
 happens_as w event same told after is lawful met = subst (λ (x : events.Event). Happens w x told after) (sym is) (lawful, met)
+
+-- of a call that may fail
+pub happens_if : {T E : Type 0} (r : Result T E) (told : T → Told) (w after : World) (event same : events.Event) → event ≡ same → IsEvent same → IfOk r (λ t. Meets w same (told t) after) → IfOk r (λ t. Happens w event (told t) after)
+happens_if r told w after event same is lawful = IfOk-weaker r _ _ (λ t. happens_as w event same (told t) after is lawful)
+
+-- whatever the links are
+pub happens_over : {T E : Type 0} (r : Result T E) (told : T → Told) (old new : Left) (ls : Links) (event same : events.Event) → event ≡ same → IsEvent same → IfOk r (λ t. (ks : Links) → Meets (in_world old ks) same (told t) (in_world new ks))
+    → IfOk r (λ t. Happens (in_world old ls) event (told t) (in_world new ls))
+happens_over r told old new ls event same is lawful = IfOk-weaker r _ _ (λ t met. happens_as (in_world old ls) event same (told t) (in_world new ls) is lawful (met ls))
+
+-- of an event that may run out of memory
+pub may_lack : {T E : Type 0} (r : Result T E) (told : T → Told) (event same : events.Event) → event ≡ same → MayLack same → IfOk r (λ t. lacks (told t) ≡ true → MayLack event)
+may_lack (Ok t) told event same is may = λ lacking. subst MayLack (sym is) may
+may_lack (Err e) told event same is may = tt
 
 -- ---- runs
 

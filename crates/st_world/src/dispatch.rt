@@ -34,11 +34,9 @@ impl<A: Allocator + Copy> Trace<A> {
         ensures nodes { length self.new.nodes ≡ length self.old.nodes }
     {
         if link == self.hops() {
-            let told = self.arrive_server(links, link, which, put, now)?;
-            return Ok(told);
+            return self.arrive_server(links, link, which, put, now);
         }
-        let told = self.arrive_up(links, link, which, put, now)?;
-        Ok(told)
+        self.arrive_up(links, link, which, put, now)
     }
 
     /// A Prepare for the client comes to the far end of its link.
@@ -59,11 +57,9 @@ impl<A: Allocator + Copy> Trace<A> {
         ensures nodes { length self.new.nodes ≡ length self.old.nodes }
     {
         let Some(hop) = link.checked_sub(1) else {
-            let told = self.arrive_client(links, link, which, put, now)?;
-            return Ok(told);
+            return self.arrive_client(links, link, which, put, now);
         };
-        let told = self.arrive_down(links, hop, which, put, now)?;
-        Ok(told)
+        self.arrive_down(links, hop, which, put, now)
     }
 
     /// A Prepare arrives at the far end of its link.
@@ -85,14 +81,8 @@ impl<A: Allocator + Copy> Trace<A> {
             return Ok(Told::Nothing);
         };
         match way {
-            Way::ToServer => {
-                let told = self.arrive_for_server(links, link, which, &put, now)?;
-                Ok(told)
-            }
-            Way::ToClient => {
-                let told = self.arrive_for_client(links, link, which, &put, now)?;
-                Ok(told)
-            }
+            Way::ToServer => self.arrive_for_server(links, link, which, &put, now),
+            Way::ToClient => self.arrive_for_client(links, link, which, &put, now),
         }
     }
 
@@ -119,8 +109,7 @@ impl<A: Allocator + Copy> Trace<A> {
             let told = self.back_end(links, link, way, side, which, put, outcome, now);
             return Ok(told);
         };
-        let told = self.back_up(links, hop, which, put, outcome, now)?;
-        Ok(told)
+        self.back_up(links, hop, which, put, outcome, now)
     }
 
     /// An outcome of a Prepare for the client arrives at whoever put it.
@@ -146,8 +135,7 @@ impl<A: Allocator + Copy> Trace<A> {
             let told = self.back_end(links, link, way, side, which, put, outcome, now);
             return Ok(told);
         }
-        let told = self.back_down(links, link, which, put, outcome, now)?;
-        Ok(told)
+        self.back_down(links, link, which, put, outcome, now)
     }
 
     /// An outcome arrives at whoever put this Prepare.
@@ -172,14 +160,8 @@ impl<A: Allocator + Copy> Trace<A> {
             return Ok(Told::Nothing);
         };
         match way {
-            Way::ToServer => {
-                let told = self.back_for_server(links, link, which, &put, outcome, now)?;
-                Ok(told)
-            }
-            Way::ToClient => {
-                let told = self.back_for_client(links, link, which, &put, outcome, now)?;
-                Ok(told)
-            }
+            Way::ToServer => self.back_for_server(links, link, which, &put, outcome, now),
+            Way::ToClient => self.back_for_client(links, link, which, &put, outcome, now),
         }
     }
 
@@ -204,8 +186,7 @@ impl<A: Allocator + Copy> Trace<A> {
         };
         let put = answer.which();
         let outcome = Outcome::Answered(answer.into_bytes());
-        let told = self.back(links, link, way, which, put, outcome, now)?;
-        Ok(told)
+        self.back(links, link, way, which, put, outcome, now)
     }
 
     /// Whoever put a Prepare learns that no answer will arrive.
@@ -223,7 +204,6 @@ impl<A: Allocator + Copy> Trace<A> {
         ensures same_links { OnErr result (links.new ≡ links.old) }
         ensures nodes { length self.new.nodes ≡ length self.old.nodes }
     {
-        let told = self.back(links, link, way, 0, which, Outcome::Fault, now)?;
-        Ok(told)
+        self.back(links, link, way, 0, which, Outcome::Fault, now)
     }
 }

@@ -30,14 +30,8 @@ pub(crate) fn send_on<A: Allocator + Copy>(
 {
     let over = &mut links[link];
     match way {
-        Way::ToServer => {
-            let told = send_from(party, &mut over.client, iv, now)?;
-            Ok(told)
-        }
-        Way::ToClient => {
-            let told = send_from(party, &mut over.server, iv, now)?;
-            Ok(told)
-        }
+        Way::ToServer => send_from(party, &mut over.client, iv, now),
+        Way::ToClient => send_from(party, &mut over.server, iv, now),
     }
 }
 
@@ -58,14 +52,8 @@ pub(crate) fn meet_end<A: Allocator + Copy>(
 {
     let over = &mut links[link];
     match way {
-        Way::ToServer => {
-            let told = arrive_at_end(party, &mut over.client, which, bytes, now)?;
-            Ok(told)
-        }
-        Way::ToClient => {
-            let told = arrive_at_end(party, &mut over.server, which, bytes, now)?;
-            Ok(told)
-        }
+        Way::ToServer => arrive_at_end(party, &mut over.client, which, bytes, now),
+        Way::ToClient => arrive_at_end(party, &mut over.server, which, bytes, now),
     }
 }
 
@@ -106,7 +94,7 @@ pub(crate) fn meet_hop_up<A: Allocator + Copy>(
     let (front, rest) = links.split_at_mut(link + 1);
     let over = &mut front[link];
     let onto = &mut rest[0];
-    let told = arrive_at(
+    arrive_at(
         node,
         &mut onto.client,
         &mut over.client,
@@ -114,8 +102,7 @@ pub(crate) fn meet_hop_up<A: Allocator + Copy>(
         which,
         bytes,
         now,
-    )?;
-    Ok(told)
+    )
 }
 
 /// A Prepare for the client comes to a hop, over the link after this one.
@@ -135,7 +122,7 @@ pub(crate) fn meet_hop_down<A: Allocator + Copy>(
     let (front, rest) = links.split_at_mut(link + 1);
     let onto = &mut front[link];
     let over = &mut rest[0];
-    let told = arrive_at(
+    arrive_at(
         node,
         &mut onto.server,
         &mut over.server,
@@ -143,8 +130,7 @@ pub(crate) fn meet_hop_down<A: Allocator + Copy>(
         which,
         bytes,
         now,
-    )?;
-    Ok(told)
+    )
 }
 
 /// An outcome arrives at the hop that put a Prepare for the server on the link after this one.
@@ -166,7 +152,7 @@ pub(crate) fn back_to_hop_up<A: Allocator + Copy>(
     let (front, rest) = links.split_at_mut(link + 1);
     let back = &mut front[link];
     let over = &mut rest[0];
-    let told = settle_at(
+    settle_at(
         node,
         &mut over.client,
         &mut back.client,
@@ -174,8 +160,7 @@ pub(crate) fn back_to_hop_up<A: Allocator + Copy>(
         which,
         outcome,
         now,
-    )?;
-    Ok(told)
+    )
 }
 
 /// An outcome arrives at the hop that put a Prepare for the client on this link.
@@ -197,7 +182,7 @@ pub(crate) fn back_to_hop_down<A: Allocator + Copy>(
     let (front, rest) = links.split_at_mut(link + 1);
     let over = &mut front[link];
     let back = &mut rest[0];
-    let told = settle_at(
+    settle_at(
         node,
         &mut over.server,
         &mut back.server,
@@ -205,6 +190,5 @@ pub(crate) fn back_to_hop_down<A: Allocator + Copy>(
         which,
         outcome,
         now,
-    )?;
-    Ok(told)
+    )
 }

@@ -370,8 +370,7 @@ impl<A: Allocator + Copy> Trace<A> {
         ensures nodes { length self.new.nodes ≡ length self.old.nodes }
     {
         let node = &mut self.nodes[hop];
-        let told = back_to_hop_up(node, links, hop, put, which, outcome, now)?;
-        Ok(told)
+        back_to_hop_up(node, links, hop, put, which, outcome, now)
     }
 
     /// An outcome of a Prepare for the client arrives at the hop after its link.
@@ -393,7 +392,6 @@ impl<A: Allocator + Copy> Trace<A> {
         ensures nodes { length self.new.nodes ≡ length self.old.nodes }
     {
         let node = &mut self.nodes[link];
-        let told = back_to_hop_down(node, links, link, put, which, outcome, now)?;
-        Ok(told)
+        back_to_hop_down(node, links, link, put, which, outcome, now)
     }
 }

@@ -27,16 +27,12 @@ impl<A: Allocator + Copy> Trace<A> {
     {
         match event {
             Event::OpenStream(side) => Ok(self.open(*side)),
-            Event::Write(side, stream, bytes) => {
-                let told = self.write(*side, *stream, bytes)?;
-                Ok(told)
-            }
+            Event::Write(side, stream, bytes) => { self.write(*side, *stream, bytes) }
             Event::Read(side, stream, max) => {
                 if *max == 0 {
                     return Ok(Told::Nothing);
                 }
-                let told = self.read(*side, *stream, *max)?;
-                Ok(told)
+                self.read(*side, *stream, *max)
             }
             Event::Close(side, stream) => Ok(self.close(*side, *stream)),
             Event::Abort(side, stream, code) => {
@@ -49,23 +45,19 @@ impl<A: Allocator + Copy> Trace<A> {
             Event::ReceiveMax(side, stream, amount) => Ok(self.raise(*side, *stream, *amount)),
             Event::Send(side, iv, now) => {
                 let _range = now.ms();
-                let told = self.send(links, *side, *iv, *now)?;
-                Ok(told)
+                self.send(links, *side, *iv, *now)
             }
             Event::Arrive(link, way, which, now) => {
                 let _range = now.ms();
-                let told = self.arrive(links, *link, *way, *which, *now)?;
-                Ok(told)
+                self.arrive(links, *link, *way, *which, *now)
             }
             Event::AnswerArrives(link, way, which, now) => {
                 let _range = now.ms();
-                let told = self.answer(links, *link, *way, *which, *now)?;
-                Ok(told)
+                self.answer(links, *link, *way, *which, *now)
             }
             Event::Fault(link, way, which, now) => {
                 let _range = now.ms();
-                let told = self.fault(links, *link, *way, *which, *now)?;
-                Ok(told)
+                self.fault(links, *link, *way, *which, *now)
             }
             Event::Crash(hop) => Ok(self.crash(*hop)),
             Event::Refused => Ok(Told::Nothing),

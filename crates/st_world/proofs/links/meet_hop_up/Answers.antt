@@ -1,13 +1,19 @@
 use Rattle.std.proofs.lemmas.Grind.{common_steps}
 use Rattle.std.proofs.Common.{arith, ◌<◌, length}
+use Rattle.st_world_parts.specs.Seen.{told_seen}
 use Rattle.st_world_parts.specs.Sides.{Client}
-use Rattle.st_world.proofs.OverLinks.{meets_up}
+use Rattle.st_world.proofs.OverLinks.{meets_up, two_same}
 use Rattle.st_world.proofs.links.meet_hop_up.Goals as goal
 
 pub returns-clause-met : goal.returns-clause-met
 returns-clause-met g c =
     let more : 0 < length c.split_at_mut-front.result.1.now = omega (arith, c.requires, c.split_at_mut-front.ensures.back_len) in
-    meets_up c.args.links.now _ _ c.args.link _ _ _ _ Client c.split_at_mut-front.ensures.value c.split_at_mut-front.ensures.front_len more c.over.view_is c.onto.view_is _ _ _ _ _ _ _ _ c.in_ok-told.ensures.met
+    meets_up c.args.links.now _ _ c.args.link _ _ _ _ Client c.split_at_mut-front.ensures.value c.split_at_mut-front.ensures.front_len more c.over.view_is c.onto.view_is c.arrive_at.result told_seen c.args.which c.args.bytes.now c.args.now c.args.node.now c.arrive_at.new.node c.arrive_at.new.back c.arrive_at.new.next c.arrive_at.ensures.met
+
+pub returns-clause-same_links : goal.returns-clause-same_links
+returns-clause-same_links g c =
+    let more : 0 < length c.split_at_mut-front.result.1.now = omega (arith, c.requires, c.split_at_mut-front.ensures.back_len) in
+    two_same c.args.links.now _ _ c.args.link _ _ _ _ Client c.split_at_mut-front.ensures.value c.split_at_mut-front.ensures.front_len more c.over.view_is c.onto.view_is c.arrive_at.result c.arrive_at.new.back c.arrive_at.new.next c.arrive_at.ensures.same_back c.arrive_at.ensures.same_next
 
 pub bounds-front-link : goal.bounds-front-link
 bounds-front-link g c = omega (arith, c.split_at_mut-front.ensures.front_len)
@@ -32,12 +38,3 @@ both_followed-links g c = grind (arith, common_steps)
 
 pub slice_back_joined-links : goal.slice_back_joined-links
 slice_back_joined-links g c = grind (arith, common_steps)
-
-pub returns-in_err-told-clause-met : goal.returns-in_err-told-clause-met
-returns-in_err-told-clause-met g c = grind (arith, common_steps)
-
-pub returns-in_err-told-clause-same_node : goal.returns-in_err-told-clause-same_node
-returns-in_err-told-clause-same_node g c = grind (arith, common_steps)
-
-pub returns-in_err-told-clause-same_links : goal.returns-in_err-told-clause-same_links
-returns-in_err-told-clause-same_links g c = grind (arith, common_steps)

@@ -1,5 +1,8 @@
-use Rattle.std.proofs.Common.{arith}
+use Rattle.std.proofs.Common.{◌∙◌, sym, arith}
 use Rattle.std.proofs.lemmas.Grind.{common_steps}
+use Rattle.st_world_parts.specs.Seen.{way_seen, told_seen}
+use Rattle.st_world.specs.Left.{in_world}
+use Rattle.st_world.proofs.Reached.{answers_back}
 use Rattle.st_world.proofs.trace.Trace.answer.Goals as goal
 
 pub same-self : goal.same-self
@@ -32,20 +35,10 @@ same-self-2 g c = grind (arith, common_steps)
 pub back-requires : goal.back-requires
 back-requires g c = grind (arith, common_steps)
 
-pub returns-in_err-told-clause-met : goal.returns-in_err-told-clause-met
-returns-in_err-told-clause-met g c = grind (arith, common_steps)
-
-pub returns-in_err-told-clause-same_self : goal.returns-in_err-told-clause-same_self
-returns-in_err-told-clause-same_self g c = grind (arith, common_steps)
-
-pub returns-in_err-told-clause-same_links : goal.returns-in_err-told-clause-same_links
-returns-in_err-told-clause-same_links g c = grind (arith, common_steps)
-
-pub returns-in_err-told-clause-nodes : goal.returns-in_err-told-clause-nodes
-returns-in_err-told-clause-nodes g c = grind (arith, common_steps)
-
-pub returns-clause-met : goal.returns-clause-met
-returns-clause-met g c = grind (arith, common_steps)
-
 pub returns-clause-nodes : goal.returns-clause-nodes
 returns-clause-nodes g c = grind (arith, common_steps)
+
+pub returns-clause-met : goal.returns-clause-met
+returns-clause-met g c =
+    let w = in_world c.args.self.now c.args.links.now in
+    answers_back c.back.result told_seen w (in_world c.back.new.self c.back.new.links) c.args.link (way_seen c.args.way) c.args.which c.args.now c.in-Some.answer _ _ c.which-put.ensures c.into_bytes.ensures (sym c.in_ok-answer.ensures ∙ c.in-Some.is) c.back.ensures.met

@@ -1,6 +1,10 @@
 use Rattle.std.proofs.lemmas.Grind.{common_steps}
-use Rattle.std.proofs.Common.{◌∙◌, sym, arith}
-use Rattle.st_world_parts.specs.Seen.{way_seen}
+use Rattle.std.proofs.Common.{◌∙◌, sym, ap, arith}
+use Rattle.st_links.specs.Outcomes.{outcome_seen}
+use Rattle.st_world_parts.specs.Sides.{Client, Server}
+use Rattle.st_world_parts.specs.Seen.{way_seen, told_seen}
+use Rattle.st_world.specs.Left.{in_world}
+use Rattle.st_world.proofs.Reached.{goes_back}
 use Rattle.st_world.proofs.LinkLists.{puts_within}
 use Rattle.st_world.proofs.trace.Trace.back.Goals as goal
 
@@ -40,12 +44,6 @@ same-self-in-ToServer g c = grind (arith, common_steps)
 pub back_for_server-requires-clause-links : goal.back_for_server-requires-clause-links
 back_for_server-requires-clause-links g c = grind (arith, common_steps)
 
-pub returns-in_err-told-in-ToServer-clause-met : goal.returns-in_err-told-in-ToServer-clause-met
-returns-in_err-told-in-ToServer-clause-met g c = grind (arith, common_steps)
-
-pub returns-in-ToServer-clause-met : goal.returns-in-ToServer-clause-met
-returns-in-ToServer-clause-met g c = grind (arith, common_steps)
-
 pub returns-in-ToServer-clause-nodes : goal.returns-in-ToServer-clause-nodes
 returns-in-ToServer-clause-nodes g c = grind (arith, common_steps)
 
@@ -55,11 +53,15 @@ same-self-in-ToClient g c = grind (arith, common_steps)
 pub back_for_client-requires-clause-links : goal.back_for_client-requires-clause-links
 back_for_client-requires-clause-links g c = grind (arith, common_steps)
 
-pub returns-in_err-told-in-ToClient-clause-met : goal.returns-in_err-told-in-ToClient-clause-met
-returns-in_err-told-in-ToClient-clause-met g c = grind (arith, common_steps)
-
-pub returns-clause-met : goal.returns-clause-met
-returns-clause-met g c = grind (arith, common_steps)
-
 pub returns-clause-nodes : goal.returns-clause-nodes
 returns-clause-nodes g c = grind (arith, common_steps)
+
+pub returns-in-ToServer-clause-met : goal.returns-in-ToServer-clause-met
+returns-in-ToServer-clause-met g c =
+    let w = in_world c.args.self.now c.args.links.now in
+    goes_back c.back_for_server.result told_seen w (in_world c.back_for_server.new.self c.back_for_server.new.links) c.args.link (way_seen c.args.way) Client c.args.which c.args.now (outcome_seen c.args.outcome) _ c.in-Some.put (ap way_seen c.in-ToServer.is) (sym c.in_ok-put.ensures ∙ c.in-Some.is) c.back_for_server.ensures.met
+
+pub returns-clause-met : goal.returns-clause-met
+returns-clause-met g c =
+    let w = in_world c.args.self.now c.args.links.now in
+    goes_back c.back_for_client.result told_seen w (in_world c.back_for_client.new.self c.back_for_client.new.links) c.args.link (way_seen c.args.way) Server c.args.which c.args.now (outcome_seen c.args.outcome) _ c.in-Some.put (ap way_seen c.in-ToClient.is) (sym c.in_ok-put.ensures ∙ c.in-Some.is) c.back_for_client.ensures.met

@@ -1,24 +1,62 @@
 use Rattle.std.proofs.lemmas.Grind.{common_steps}
-use Rattle.std.proofs.Common.{◌≡◌, ℤ, length, ap, subst, arith}
+use Rattle.std.proofs.Common.{ℤ, ap, subst, arith}
 use Rattle.st_ilp.specs.Moments.{IsMoment}
 use Rattle.st_world_parts.specs.Events as events
 use Rattle.st_world_parts.specs.Seen.{side_seen, way_seen, told_seen}
 use Rattle.st_world.specs.Seen.{event_seen}
 use Rattle.st_world.specs.Left.{in_world}
-use Rattle.st_world.proofs.Reached.{happens_as}
+use Rattle.st_world.proofs.Reached.{happens_as, happens_if, happens_over, may_lack}
 use Rattle.st_world.proofs.trace.Trace.take_event.Goals as goal
+
+pub returns-in-Write-clause-happens : goal.returns-in-Write-clause-happens
+returns-in-Write-clause-happens g c =
+    happens_over c.write.result told_seen c.args.self.now c.write.new.self c.args.links.now (event_seen c.args.event.now) (events.Write (side_seen c.in-Write.side) c.in-Write.stream c.in-Write.bytes.now) (ap event_seen c.in-Write.is) tt c.write.ensures.met
+
+pub returns-in-Write-clause-memory : goal.returns-in-Write-clause-memory
+returns-in-Write-clause-memory g c = may_lack c.write.result told_seen (event_seen c.args.event.now) (events.Write (side_seen c.in-Write.side) c.in-Write.stream c.in-Write.bytes.now) (ap event_seen c.in-Write.is) tt
+
+pub returns-else-max-eq0-clause-happens : goal.returns-else-max-eq0-clause-happens
+returns-else-max-eq0-clause-happens g c =
+    happens_over c.read.result told_seen c.args.self.now c.read.new.self c.args.links.now (event_seen c.args.event.now) (events.Read (side_seen c.in-Read.side) c.in-Read.stream c.in-Read.max) (ap event_seen c.in-Read.is) tt c.read.ensures.met
+
+pub returns-else-max-eq0-clause-memory : goal.returns-else-max-eq0-clause-memory
+returns-else-max-eq0-clause-memory g c = may_lack c.read.result told_seen (event_seen c.args.event.now) (events.Read (side_seen c.in-Read.side) c.in-Read.stream c.in-Read.max) (ap event_seen c.in-Read.is) tt
+
+pub returns-in-Send-clause-happens : goal.returns-in-Send-clause-happens
+returns-in-Send-clause-happens g c =
+    let at : IsMoment c.in-Send.now = subst (λ (n : ℤ). IsMoment n) c.ms-range.ensures.value c.ms-range.ensures.range in
+    happens_if c.send.result told_seen (in_world c.args.self.now c.args.links.now) (in_world c.send.new.self c.send.new.links) (event_seen c.args.event.now) (events.Send (side_seen c.in-Send.side) c.in-Send.iv c.in-Send.now) (ap event_seen c.in-Send.is) (c.send.ensures.twelve, at) c.send.ensures.met
+
+pub returns-in-Send-clause-memory : goal.returns-in-Send-clause-memory
+returns-in-Send-clause-memory g c = may_lack c.send.result told_seen (event_seen c.args.event.now) (events.Send (side_seen c.in-Send.side) c.in-Send.iv c.in-Send.now) (ap event_seen c.in-Send.is) tt
+
+pub returns-in-Arrive-clause-happens : goal.returns-in-Arrive-clause-happens
+returns-in-Arrive-clause-happens g c =
+    let at : IsMoment c.in-Arrive.now = subst (λ (n : ℤ). IsMoment n) c.ms-range-in-Arrive.ensures.value c.ms-range-in-Arrive.ensures.range in
+    happens_if c.arrive.result told_seen (in_world c.args.self.now c.args.links.now) (in_world c.arrive.new.self c.arrive.new.links) (event_seen c.args.event.now) (events.Arrive c.in-Arrive.link (way_seen c.in-Arrive.way) c.in-Arrive.which c.in-Arrive.now) (ap event_seen c.in-Arrive.is) at c.arrive.ensures.met
+
+pub returns-in-Arrive-clause-memory : goal.returns-in-Arrive-clause-memory
+returns-in-Arrive-clause-memory g c = may_lack c.arrive.result told_seen (event_seen c.args.event.now) (events.Arrive c.in-Arrive.link (way_seen c.in-Arrive.way) c.in-Arrive.which c.in-Arrive.now) (ap event_seen c.in-Arrive.is) tt
+
+pub returns-in-AnswerArrives-clause-happens : goal.returns-in-AnswerArrives-clause-happens
+returns-in-AnswerArrives-clause-happens g c =
+    let at : IsMoment c.in-AnswerArrives.now = subst (λ (n : ℤ). IsMoment n) c.ms-range-in-AnswerArrives.ensures.value c.ms-range-in-AnswerArrives.ensures.range in
+    happens_if c.answer.result told_seen (in_world c.args.self.now c.args.links.now) (in_world c.answer.new.self c.answer.new.links) (event_seen c.args.event.now) (events.AnswerArrives c.in-AnswerArrives.link (way_seen c.in-AnswerArrives.way) c.in-AnswerArrives.which c.in-AnswerArrives.now) (ap event_seen c.in-AnswerArrives.is) at c.answer.ensures.met
+
+pub returns-in-AnswerArrives-clause-memory : goal.returns-in-AnswerArrives-clause-memory
+returns-in-AnswerArrives-clause-memory g c = may_lack c.answer.result told_seen (event_seen c.args.event.now) (events.AnswerArrives c.in-AnswerArrives.link (way_seen c.in-AnswerArrives.way) c.in-AnswerArrives.which c.in-AnswerArrives.now) (ap event_seen c.in-AnswerArrives.is) tt
+
+pub returns-in-Fault-clause-happens : goal.returns-in-Fault-clause-happens
+returns-in-Fault-clause-happens g c =
+    let at : IsMoment c.in-Fault.now = subst (λ (n : ℤ). IsMoment n) c.ms-range-in-Fault.ensures.value c.ms-range-in-Fault.ensures.range in
+    happens_if c.fault.result told_seen (in_world c.args.self.now c.args.links.now) (in_world c.fault.new.self c.fault.new.links) (event_seen c.args.event.now) (events.Fault c.in-Fault.link (way_seen c.in-Fault.way) c.in-Fault.which c.in-Fault.now) (ap event_seen c.in-Fault.is) at c.fault.ensures.met
+
+pub returns-in-Fault-clause-memory : goal.returns-in-Fault-clause-memory
+returns-in-Fault-clause-memory g c = may_lack c.fault.result told_seen (event_seen c.args.event.now) (events.Fault c.in-Fault.link (way_seen c.in-Fault.way) c.in-Fault.which c.in-Fault.now) (ap event_seen c.in-Fault.is) tt
 
 pub returns-in-OpenStream-clause-happens : goal.returns-in-OpenStream-clause-happens
 returns-in-OpenStream-clause-happens g c =
     happens_as (in_world c.args.self.now c.args.links.now) (event_seen c.args.event.now) (events.OpenStream (side_seen c.in-OpenStream.side)) (told_seen c.open.result) (in_world c.open.new.self c.args.links.now) (ap event_seen c.in-OpenStream.is) tt (c.open.ensures.met c.args.links.now)
-
-pub returns-in_ok-told-in-Write-clause-happens : goal.returns-in_ok-told-in-Write-clause-happens
-returns-in_ok-told-in-Write-clause-happens g c =
-    happens_as (in_world c.args.self.now c.args.links.now) (event_seen c.args.event.now) (events.Write (side_seen c.in-Write.side) c.in-Write.stream c.in-Write.bytes.now) (told_seen c.in_ok-told-in-Write.told) (in_world c.write.new.self c.args.links.now) (ap event_seen c.in-Write.is) tt (c.in_ok-told-in-Write.ensures.met c.args.links.now)
-
-pub returns-in_ok-told-in-Read-clause-happens : goal.returns-in_ok-told-in-Read-clause-happens
-returns-in_ok-told-in-Read-clause-happens g c =
-    happens_as (in_world c.args.self.now c.args.links.now) (event_seen c.args.event.now) (events.Read (side_seen c.in-Read.side) c.in-Read.stream c.in-Read.max) (told_seen c.in_ok-told-in-Read.told) (in_world c.read.new.self c.args.links.now) (ap event_seen c.in-Read.is) tt (c.in_ok-told-in-Read.ensures.met c.args.links.now)
 
 pub returns-in-Close-clause-happens : goal.returns-in-Close-clause-happens
 returns-in-Close-clause-happens g c =
@@ -36,32 +74,12 @@ pub returns-in-ReceiveMax-clause-happens : goal.returns-in-ReceiveMax-clause-hap
 returns-in-ReceiveMax-clause-happens g c =
     happens_as (in_world c.args.self.now c.args.links.now) (event_seen c.args.event.now) (events.ReceiveMax (side_seen c.in-ReceiveMax.side) c.in-ReceiveMax.stream c.in-ReceiveMax.amount) (told_seen c.raise.result) (in_world c.raise.new.self c.args.links.now) (ap event_seen c.in-ReceiveMax.is) tt (c.raise.ensures.met c.args.links.now)
 
-pub returns-in_ok-told-in-Send-clause-happens : goal.returns-in_ok-told-in-Send-clause-happens
-returns-in_ok-told-in-Send-clause-happens g c =
-    let at : IsMoment c.in-Send.now = subst (λ (n : ℤ). IsMoment n) c.ms-range.ensures.value c.ms-range.ensures.range in
-    let twelve : length c.in-Send.iv ≡ 12 = c.in_ok-told-in-Send.ensures.twelve in
-    happens_as (in_world c.args.self.now c.args.links.now) (event_seen c.args.event.now) (events.Send (side_seen c.in-Send.side) c.in-Send.iv c.in-Send.now) (told_seen c.in_ok-told-in-Send.told) (in_world c.send.new.self c.send.new.links) (ap event_seen c.in-Send.is) (twelve, at) c.in_ok-told-in-Send.ensures.met
-
-pub returns-in_ok-told-in-Arrive-clause-happens : goal.returns-in_ok-told-in-Arrive-clause-happens
-returns-in_ok-told-in-Arrive-clause-happens g c =
-    let at : IsMoment c.in-Arrive.now = subst (λ (n : ℤ). IsMoment n) c.ms-range-in-Arrive.ensures.value c.ms-range-in-Arrive.ensures.range in
-    happens_as (in_world c.args.self.now c.args.links.now) (event_seen c.args.event.now) (events.Arrive c.in-Arrive.link (way_seen c.in-Arrive.way) c.in-Arrive.which c.in-Arrive.now) (told_seen c.in_ok-told-in-Arrive.told) (in_world c.arrive.new.self c.arrive.new.links) (ap event_seen c.in-Arrive.is) at c.in_ok-told-in-Arrive.ensures.met
-
 pub returns-in-Crash-clause-happens : goal.returns-in-Crash-clause-happens
 returns-in-Crash-clause-happens g c =
     happens_as (in_world c.args.self.now c.args.links.now) (event_seen c.args.event.now) (events.Crash c.in-Crash.hop) (told_seen c.crash.result) (in_world c.crash.new.self c.args.links.now) (ap event_seen c.in-Crash.is) tt (c.crash.ensures.met c.args.links.now)
 
 pub slice_bounds-write-end : goal.slice_bounds-write-end
 slice_bounds-write-end g c = grind (arith, common_steps)
-
-pub returns-in_err-told-in-Write-clause-happens : goal.returns-in_err-told-in-Write-clause-happens
-returns-in_err-told-in-Write-clause-happens g c = grind (arith, common_steps)
-
-pub returns-in_err-told-in-Write-clause-nodes : goal.returns-in_err-told-in-Write-clause-nodes
-returns-in_err-told-in-Write-clause-nodes g c = grind (arith, common_steps)
-
-pub returns-in_err-told-in-Write-clause-memory : goal.returns-in_err-told-in-Write-clause-memory
-returns-in_err-told-in-Write-clause-memory g c = grind (arith, common_steps)
 
 pub returns-then-max-eq0-clause-happens : goal.returns-then-max-eq0-clause-happens
 returns-then-max-eq0-clause-happens g c = grind (arith, common_steps)
@@ -74,15 +92,6 @@ returns-then-max-eq0-clause-memory g c = grind (arith, common_steps)
 
 pub read-requires : goal.read-requires
 read-requires g c = grind (arith, common_steps)
-
-pub returns-in_err-told-in-Read-clause-happens : goal.returns-in_err-told-in-Read-clause-happens
-returns-in_err-told-in-Read-clause-happens g c = grind (arith, common_steps)
-
-pub returns-in_err-told-in-Read-clause-nodes : goal.returns-in_err-told-in-Read-clause-nodes
-returns-in_err-told-in-Read-clause-nodes g c = grind (arith, common_steps)
-
-pub returns-in_err-told-in-Read-clause-memory : goal.returns-in_err-told-in-Read-clause-memory
-returns-in_err-told-in-Read-clause-memory g c = grind (arith, common_steps)
 
 pub returns-then-code-eq1-clause-happens : goal.returns-then-code-eq1-clause-happens
 returns-then-code-eq1-clause-happens g c = grind (arith, common_steps)
@@ -99,23 +108,8 @@ abort-requires g c = grind (arith, common_steps)
 pub send-requires : goal.send-requires
 send-requires g c = grind (arith, common_steps)
 
-pub returns-in_err-told-in-Send-clause-happens : goal.returns-in_err-told-in-Send-clause-happens
-returns-in_err-told-in-Send-clause-happens g c = grind (arith, common_steps)
-
-pub returns-in_err-told-in-Send-clause-nodes : goal.returns-in_err-told-in-Send-clause-nodes
-returns-in_err-told-in-Send-clause-nodes g c = grind (arith, common_steps)
-
-pub returns-in_err-told-in-Send-clause-memory : goal.returns-in_err-told-in-Send-clause-memory
-returns-in_err-told-in-Send-clause-memory g c = grind (arith, common_steps)
-
 pub arrive-requires : goal.arrive-requires
 arrive-requires g c = grind (arith, common_steps)
-
-pub returns-in_err-told-in-Arrive-clause-nodes : goal.returns-in_err-told-in-Arrive-clause-nodes
-returns-in_err-told-in-Arrive-clause-nodes g c = grind (arith, common_steps)
-
-pub returns-in_err-told-in-Arrive-clause-memory : goal.returns-in_err-told-in-Arrive-clause-memory
-returns-in_err-told-in-Arrive-clause-memory g c = grind (arith, common_steps)
 
 pub answer-requires : goal.answer-requires
 answer-requires g c = grind (arith, common_steps)
@@ -123,32 +117,11 @@ answer-requires g c = grind (arith, common_steps)
 pub fault-requires : goal.fault-requires
 fault-requires g c = grind (arith, common_steps)
 
-pub returns-in_err-told-in-Fault-clause-happens : goal.returns-in_err-told-in-Fault-clause-happens
-returns-in_err-told-in-Fault-clause-happens g c = grind (arith, common_steps)
-
-pub returns-in_err-told-in-Fault-clause-nodes : goal.returns-in_err-told-in-Fault-clause-nodes
-returns-in_err-told-in-Fault-clause-nodes g c = grind (arith, common_steps)
-
-pub returns-in_err-told-in-Fault-clause-memory : goal.returns-in_err-told-in-Fault-clause-memory
-returns-in_err-told-in-Fault-clause-memory g c = grind (arith, common_steps)
-
 pub returns-in-OpenStream-clause-nodes : goal.returns-in-OpenStream-clause-nodes
 returns-in-OpenStream-clause-nodes g c = grind (arith, common_steps)
 
 pub returns-in-OpenStream-clause-memory : goal.returns-in-OpenStream-clause-memory
 returns-in-OpenStream-clause-memory g c = grind (arith, common_steps)
-
-pub returns-in_ok-told-in-Write-clause-nodes : goal.returns-in_ok-told-in-Write-clause-nodes
-returns-in_ok-told-in-Write-clause-nodes g c = grind (arith, common_steps)
-
-pub returns-in_ok-told-in-Write-clause-memory : goal.returns-in_ok-told-in-Write-clause-memory
-returns-in_ok-told-in-Write-clause-memory g c = grind (arith, common_steps)
-
-pub returns-in_ok-told-in-Read-clause-nodes : goal.returns-in_ok-told-in-Read-clause-nodes
-returns-in_ok-told-in-Read-clause-nodes g c = grind (arith, common_steps)
-
-pub returns-in_ok-told-in-Read-clause-memory : goal.returns-in_ok-told-in-Read-clause-memory
-returns-in_ok-told-in-Read-clause-memory g c = grind (arith, common_steps)
 
 pub returns-in-Close-clause-nodes : goal.returns-in-Close-clause-nodes
 returns-in-Close-clause-nodes g c = grind (arith, common_steps)
@@ -173,27 +146,6 @@ returns-in-ReceiveMax-clause-nodes g c = grind (arith, common_steps)
 
 pub returns-in-ReceiveMax-clause-memory : goal.returns-in-ReceiveMax-clause-memory
 returns-in-ReceiveMax-clause-memory g c = grind (arith, common_steps)
-
-pub returns-in_ok-told-in-Send-clause-nodes : goal.returns-in_ok-told-in-Send-clause-nodes
-returns-in_ok-told-in-Send-clause-nodes g c = grind (arith, common_steps)
-
-pub returns-in_ok-told-in-Send-clause-memory : goal.returns-in_ok-told-in-Send-clause-memory
-returns-in_ok-told-in-Send-clause-memory g c = grind (arith, common_steps)
-
-pub returns-in_ok-told-in-Arrive-clause-nodes : goal.returns-in_ok-told-in-Arrive-clause-nodes
-returns-in_ok-told-in-Arrive-clause-nodes g c = grind (arith, common_steps)
-
-pub returns-in_ok-told-in-Arrive-clause-memory : goal.returns-in_ok-told-in-Arrive-clause-memory
-returns-in_ok-told-in-Arrive-clause-memory g c = grind (arith, common_steps)
-
-pub returns-in_ok-told-in-Fault-clause-happens : goal.returns-in_ok-told-in-Fault-clause-happens
-returns-in_ok-told-in-Fault-clause-happens g c = grind (arith, common_steps)
-
-pub returns-in_ok-told-in-Fault-clause-nodes : goal.returns-in_ok-told-in-Fault-clause-nodes
-returns-in_ok-told-in-Fault-clause-nodes g c = grind (arith, common_steps)
-
-pub returns-in_ok-told-in-Fault-clause-memory : goal.returns-in_ok-told-in-Fault-clause-memory
-returns-in_ok-told-in-Fault-clause-memory g c = grind (arith, common_steps)
 
 pub returns-in-Crash-clause-nodes : goal.returns-in-Crash-clause-nodes
 returns-in-Crash-clause-nodes g c = grind (arith, common_steps)
