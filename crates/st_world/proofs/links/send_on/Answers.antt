@@ -1,7 +1,8 @@
-use Rattle.std.proofs.Common.{refl}
+use Rattle.std.proofs.lemmas.Grind.{common_steps}
+use Rattle.std.proofs.Common.{refl, arith}
 use Rattle.std.proofs.lemmas.Result.{IfOk-weaker}
 use Rattle.st_world_parts.specs.Sides.{Client, Server}
-use Rattle.st_world.proofs.OverLinks.{sends_over}
+use Rattle.st_world.proofs.OverLinks.{sends_over, one_same}
 use Rattle.st_world.proofs.links.send_on.Goals as goal
 
 pub returns-in-ToServer-clause-sent : goal.returns-in-ToServer-clause-sent
@@ -12,3 +13,12 @@ returns-in-ToClient-clause-sent g c = rw c.in-ToClient.is (IfOk-weaker c.send_fr
 
 pub bounds-links-link : goal.bounds-links-link
 bounds-links-link g c = c.requires
+
+pub offset_bounds-links-link : goal.offset_bounds-links-link
+offset_bounds-links-link g c = grind (arith, common_steps)
+
+pub returns-in-ToServer-clause-same_links : goal.returns-in-ToServer-clause-same_links
+returns-in-ToServer-clause-same_links g c = one_same c.args.links.now c.args.link _ _ _ Client c.requires c.over.view_is c.send_from.result c.send_from.new.lane refl c.send_from.ensures.same_lane
+
+pub returns-in-ToClient-clause-same_links : goal.returns-in-ToClient-clause-same_links
+returns-in-ToClient-clause-same_links g c = one_same c.args.links.now c.args.link _ _ _ Server c.requires c.over.view_is c.send_from-in-ToClient.result c.send_from-in-ToClient.new.lane refl c.send_from-in-ToClient.ensures.same_lane
