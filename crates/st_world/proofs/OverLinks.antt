@@ -1,6 +1,6 @@
 -- What one place of the list of links, or two adjacent ones, become.
 use Rattle.std.proofs.Common.{◌≡◌, ℕ, ◌+◌, ◌<◌, List, ◌++◌, length, set, get_or, sym, subst, ap, ◌∙◌, arith, ℤ, Option, Result, Ok, Err, IfOk, OnErr}
-use Rattle.std.proofs.lemmas.Result.{IfOk-weaker}
+use Rattle.std.proofs.lemmas.Result.{IfOk-weaker, on_err_weaker}
 use Rattle.st_world_parts.specs.Sides.{Side, Both, at, put}
 use Rattle.st_world_parts.specs.State.{Party, Node, SentPrepare, Direction}
 use Rattle.st_world_parts.specs.Events.{Told}
@@ -12,14 +12,24 @@ module _ (ls : Links) (i : ℕ) (l x k : Both Direction) (a : Side) (h : i < len
   is : l ≡ get_or ls i l
   is = lx ∙ any_or ls i x l h
 
-  pub sends_over : (iv : List ℕ) (now : ℤ) (told : Told) (p q : Party) (y : Direction) → EndSends iv now told p q (at l a) y → k ≡ put l a y → LinkSends i a iv now told p q ls (set ls i k)
-  sends_over iv now told p q y met e = (y, subst (λ (z : Both Direction). EndSends iv now told p q (at z a) y) (sym (is_link ls i l h is)) met, over_lane ls i l a y k h is e)
+  pub sends_over : {T E : Type 0} (r : Result T E) (told : T → Told) (way : Side) (iv : List ℕ) (now : ℤ) (p q : Party) (y : Direction) → way ≡ a → IfOk r (λ t. EndSends iv now (told t) p q (at l a) y) → k ≡ put l a y → IfOk r (λ t. LinkSends i way iv now (told t) p q ls (set ls i k))
+  sends_over r told way iv now p q y is_way met e =
+      let P : Side → Type 0 = λ s. IfOk r (λ t. LinkSends i s iv now (told t) p q ls (set ls i k)) in
+      let at_link : Both Direction → Told → Type 0 = λ z x. EndSends iv now x p q (at z a) y in
+      subst P (sym is_way) (IfOk-weaker r _ _ (λ t now_met. (y, subst (λ (z : Both Direction). at_link z (told t)) (sym (is_link ls i l h is)) now_met, over_lane ls i l a y k h is e)) met)
 
-  pub meets_over : (which : ℕ) (bytes : List ℕ) (now : ℤ) (told : Told) (p q : Party) (y : Direction) → EndMet which bytes now told p q (at l a) y → k ≡ put l a y → LinkMet i a which bytes now told p q ls (set ls i k)
-  meets_over which bytes now told p q y met e = (y, subst (λ (z : Both Direction). EndMet which bytes now told p q (at z a) y) (sym (is_link ls i l h is)) met, over_lane ls i l a y k h is e)
+  pub meets_over : {T E : Type 0} (r : Result T E) (told : T → Told) (way : Side) (which : ℕ) (bytes : List ℕ) (now : ℤ) (p q : Party) (y : Direction) → way ≡ a → IfOk r (λ t. EndMet which bytes now (told t) p q (at l a) y) → k ≡ put l a y → IfOk r (λ t. LinkMet i way which bytes now (told t) p q ls (set ls i k))
+  meets_over r told way which bytes now p q y is_way met e =
+      let P : Side → Type 0 = λ s. IfOk r (λ t. LinkMet i s which bytes now (told t) p q ls (set ls i k)) in
+      let at_link : Both Direction → Told → Type 0 = λ z x. EndMet which bytes now x p q (at z a) y in
+      subst P (sym is_way) (IfOk-weaker r _ _ (λ t now_met. (y, subst (λ (z : Both Direction). at_link z (told t)) (sym (is_link ls i l h is)) now_met, over_lane ls i l a y k h is e)) met)
 
   pub backs_over : (z : SentPrepare) (j : ℕ) (outcome : Option (List ℕ)) (told : Told) (p q : Party) (y : Direction) → EndBack z j outcome told p q (at l a) y → k ≡ put l a y → LinkBack i a z j outcome told p q ls (set ls i k)
   backs_over z j outcome told p q y met e = (y, subst (λ (u : Both Direction). EndBack z j outcome told p q (at u a) y) (sym (is_link ls i l h is)) met, over_lane ls i l a y k h is e)
+
+  -- it is put back, if there is an error
+  pub one_same : {T E : Type 0} (r : Result T E) (y : Direction) → k ≡ put l a y → OnErr r (y ≡ at l a) → OnErr r (set ls i k ≡ ls)
+  one_same r y e = on_err_weaker r (λ same. ap (set ls i) (e ∙ ap (put l a) same ∙ put_same l a) ∙ set_here ls i l is)
 
 module _ (ls xs ys : Links) (i : ℕ) (x y x' y' : Both Direction) (a : Side) (e : ls ≡ xs ++ ys) (n : length xs ≡ i + 1) (more : 0 < length ys) (fx : x ≡ get_or xs i x') (fy : y ≡ get_or ys 0 y') where
   two : AreTwo ls i x y

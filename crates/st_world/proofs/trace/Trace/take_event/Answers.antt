@@ -161,3 +161,51 @@ returns-in-Refused-clause-nodes g c = grind (arith, common_steps)
 
 pub returns-in-Refused-clause-memory : goal.returns-in-Refused-clause-memory
 returns-in-Refused-clause-memory g c = grind (arith, common_steps)
+
+pub returns-in-Write-clause-same_self : goal.returns-in-Write-clause-same_self
+returns-in-Write-clause-same_self g c = c.write.ensures.unchanged
+
+pub returns-in-Write-clause-nodes : goal.returns-in-Write-clause-nodes
+returns-in-Write-clause-nodes g c = c.write.ensures.nodes
+
+pub returns-else-max-eq0-clause-same_self : goal.returns-else-max-eq0-clause-same_self
+returns-else-max-eq0-clause-same_self g c = c.read.ensures.unchanged
+
+pub returns-else-max-eq0-clause-nodes : goal.returns-else-max-eq0-clause-nodes
+returns-else-max-eq0-clause-nodes g c = c.read.ensures.nodes
+
+pub returns-in-Send-clause-same_self : goal.returns-in-Send-clause-same_self
+returns-in-Send-clause-same_self g c = c.send.ensures.same_self
+
+pub returns-in-Send-clause-nodes : goal.returns-in-Send-clause-nodes
+returns-in-Send-clause-nodes g c = c.send.ensures.nodes
+
+pub returns-in-Send-clause-same_links : goal.returns-in-Send-clause-same_links
+returns-in-Send-clause-same_links g c = c.send.ensures.same_links
+
+pub returns-in-Arrive-clause-same_self : goal.returns-in-Arrive-clause-same_self
+returns-in-Arrive-clause-same_self g c = c.arrive.ensures.same_self
+
+pub returns-in-Arrive-clause-nodes : goal.returns-in-Arrive-clause-nodes
+returns-in-Arrive-clause-nodes g c = c.arrive.ensures.nodes
+
+pub returns-in-Arrive-clause-same_links : goal.returns-in-Arrive-clause-same_links
+returns-in-Arrive-clause-same_links g c = c.arrive.ensures.same_links
+
+pub returns-in-AnswerArrives-clause-same_self : goal.returns-in-AnswerArrives-clause-same_self
+returns-in-AnswerArrives-clause-same_self g c = c.answer.ensures.same_self
+
+pub returns-in-AnswerArrives-clause-nodes : goal.returns-in-AnswerArrives-clause-nodes
+returns-in-AnswerArrives-clause-nodes g c = c.answer.ensures.nodes
+
+pub returns-in-AnswerArrives-clause-same_links : goal.returns-in-AnswerArrives-clause-same_links
+returns-in-AnswerArrives-clause-same_links g c = c.answer.ensures.same_links
+
+pub returns-in-Fault-clause-same_self : goal.returns-in-Fault-clause-same_self
+returns-in-Fault-clause-same_self g c = c.fault.ensures.same_self
+
+pub returns-in-Fault-clause-nodes : goal.returns-in-Fault-clause-nodes
+returns-in-Fault-clause-nodes g c = c.fault.ensures.nodes
+
+pub returns-in-Fault-clause-same_links : goal.returns-in-Fault-clause-same_links
+returns-in-Fault-clause-same_links g c = c.fault.ensures.same_links
