@@ -1,6 +1,6 @@
 -- Lines one after another, answered as they stream past.
 use Rattle.std.proofs.Common.{◌≡◌, ◌<◌, ◌≤◌, ℕ, suc, ◌+◌, ◌==◌, Bool, true, false, ◌||◌, List, [], ◌∷◌, ◌++◌, length, take, drop, get_or, set, add-one, Option, Some, None, Ok, Err, refl, sym, ap, subst, ◌∙◌, inl, inr, arith, append_assoc, append-nil}
-use Rattle.std.specs.Prelude.{is_some, IsOk, IfSome, OnErr, Result}
+use Rattle.std.specs.Prelude.{is_some, IsErrAnd, IsOk, IfSome, OnErr, Result}
 use Rattle.std.specs.List.{All, slice_split}
 use Rattle.std.specs.Str.Lines.{lines, lines_of_parts, strip_carriage_return}
 use Rattle.std.specs.Io.KnownBytes.{Appends, Consumes, IsAtEnd, Keeps}
@@ -215,6 +215,11 @@ covers_ended input left rest before now after s t said piece none h took end put
 pub on_err : {T E : Type 0} (r : Result T E) (P : Type 0) → P → OnErr r P
 on_err (Ok x) P p = tt
 on_err (Err e) P p = p
+
+-- what holds of an error's result
+pub err_as : {T E : Type 0} (P : Result T E → Type 0) (r : Result T E) (e : E) → IsErrAnd r (λ x. x ≡ e) → P (Err e) → P r
+err_as P (Ok x) e is h = absurd is
+err_as P (Err x) e is h = subst (λ y. P (Err y)) (sym is) h
 
 -- the first bytes of a text, of which some were written before and the rest is cut off
 writes_part : (before now after : Option (List ℕ)) (all done said rest : List ℕ) → all ≡ done ++ (said ++ rest) → Appends before now done → WritesPart said now after → WritesPart all before after

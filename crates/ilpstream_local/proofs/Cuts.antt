@@ -1,9 +1,10 @@
 -- Parts of an input, and what of them is among its first bytes.
-use Rattle.std.proofs.Common.{◌≡◌, ◌≢◌, ℕ, zero, suc, ◌+◌, ◌-◌, ◌*◌, ◌<◌, ◌≤◌, List, [], ◌++◌, length, take, drop, sym, ap, ◌∙◌, inl, inr, arith, mul-le-mul_right, suc-mul, zero-mul, mod-lt, ◌%◌, div-add-mod'}
+use Rattle.std.proofs.Common.{◌≡◌, ◌≢◌, ℕ, zero, suc, ◌+◌, ◌-◌, ◌*◌, ◌<◌, ◌≤◌, List, [], ◌++◌, length, take, drop, sym, ap, ◌∙◌, inl, inr, arith, mul-le-mul_right, suc-mul, zero-mul, mod-lt, mul_comm, subst, ◌%◌, div-add-mod'}
 use Rattle.std.specs.Prelude.{min, ◌/◌}
 use Rattle.std.proofs.Math.Seq.{take-add}
 use Rattle.std.proofs.lemmas.Grind.{div_ceil_times}
 use Rattle.std.proofs.lemmas.Bool.{cases_lt}
+use Rattle.std.proofs.lemmas.Nat.{div_below}
 use Rattle.std.proofs.lemmas.List.{take_all, take_min, length-drop, drop-drop}
 use Rattle.ilpstream_local.specs.Parts.{part_size, part_at, sent_of, joined}
 
@@ -62,6 +63,13 @@ has_size bytes parts some within =
       | inl size ↦ size
       | inr none ↦ let zero-size : part_size bytes parts ≡ 0 = omega (arith, none) in absurd (let no : part_size bytes parts * parts ≡ 0 = ap (λ n. n * parts) zero-size ∙ zero-mul parts in omega (arith, enough, no, within))
     ]
+
+-- each byte is in one of the parts
+pub place_within : (bytes parts sent : ℕ) → 0 < parts → sent < bytes → sent / part_size bytes parts < parts
+place_within bytes parts sent some within =
+    let enough = (div_ceil_times bytes parts some).0 in
+    let size = has_size bytes parts some (omega (arith, within)) in
+    div_below sent (part_size bytes parts) parts size (subst (λ (n : ℕ). sent < n) (mul_comm (part_size bytes parts) parts) (omega (arith, enough, within)))
 
 -- a chunk that stays within its part
 pub stays_within : (sent size count : ℕ) → 0 < size → count ≤ size - sent % size → sent + count ≤ sent / size * size + size

@@ -1,17 +1,18 @@
 -- Events one after another, and the parts of a schedule by one more at their end.
-use Rattle.std.proofs.Common.{◌≡◌, ℕ, zero, suc, ◌+◌, ◌-◌, ◌<◌, ◌≤◌, Bool, true, false, List, [], ◌∷◌, ◌++◌, refl, sym, ap, subst, ◌∙◌, inl, inr, arith, length-append, ℤ, pos, cond}
-use Rattle.std.specs.Prelude.{MatchBool}
+use Rattle.std.proofs.Common.{◌≡◌, ℕ, zero, suc, ◌+◌, ◌-◌, ◌/◌, ◌%◌, ◌<◌, ◌≤◌, Bool, true, false, List, [], ◌∷◌, ◌++◌, length, take, drop, refl, sym, ap, subst, ◌∙◌, inl, inr, arith, length-append, ℤ, pos, cond}
+use Rattle.std.specs.Prelude.{MatchBool, min}
 use Rattle.std.specs.List.{AllByRecursion}
 use Rattle.std.proofs.lemmas.Bool.{cases_lt}
 use Rattle.ilpstream_settings.specs.declared.settings.LocalSettings.{LocalSettings}
-use Rattle.st_world_parts.specs.Sides.{Side, Server}
+use Rattle.st_world_parts.specs.Sides.{Side, Client, Server}
 use Rattle.st_world_parts.specs.State.{World}
-use Rattle.st_world_parts.specs.Events.{Event, Send, Arrive, Told}
+use Rattle.st_world_parts.specs.Events.{Event, Send, Arrive, Write, Told}
 use Rattle.st_world.specs.Steps.{Happens}
 use Rattle.st_world.specs.Runs.{Run}
 use Rattle.st_world.specs.Left.{lacks}
+use Rattle.ilpstream_local.specs.Parts.{stream_at}
 use Rattle.ilpstream_local.specs.Playing.{Played, is_lost}
-use Rattle.ilpstream_local.specs.Schedule.{AreWhole, Begins, BeginsCrossing, BeginsEach, BeginsToClose, BeginsToGo, Crosses, Goes, GoesOn, IsAt, IsIdle, IsSent, IsWhole, IsWrite, Reach, Reads, ReadsOne, Takes, TakesWrites, Tells, answer, arrival, arrived, closing, each, fault_at, is_sent, iv_of, link_of, number_on, sending}
+use Rattle.ilpstream_local.specs.Schedule.{AreWhole, Begins, BeginsCrossing, BeginsEach, BeginsToClose, BeginsToGo, Crosses, Goes, GoesOn, IsAt, IsDenied, IsIdle, IsSent, IsWhole, IsWrite, Reach, Reads, ReadsOne, Takes, TakesWrites, Tells, answer, arrival, arrived, closing, each, fault_at, is_sent, iv_of, link_of, next_piece, next_write, number_on, sending}
 
 -- ---- events, one after another
 
@@ -143,6 +144,20 @@ writes_none p = ([], tt, takes_none p)
 
 pub writes_then : (p q r : Played) → TakesWrites p q → TakesWrites q r → TakesWrites p r
 writes_then p q r a b = (a.0 ++ b.0, all_append a.0 b.0 a.1 b.1, takes_then a.0 b.0 p q r a.2 b.2)
+
+-- a write, or nothing
+pub writes_one : (k : ℕ) (xs : List ℕ) (p q : Played) → Begins (Write Client k xs) p q → TakesWrites p q
+writes_one k xs p q b = elim b [
+  | inl none ↦ ([], tt, none)
+  | inr one ↦ (Write Client k xs ∷ [], (tt, tt), one)
+]
+
+-- a write of the bytes that come next, by the numbers that are at hand
+pub denied_next : (size part stream count : ℕ) (input : List ℕ) (sent : ℕ) (p q : Played) → part ≡ size → stream ≡ stream_at (sent / part)
+    → count ≡ min (min 16384 (part - sent % part)) (length input - sent) → IsDenied (Write Client stream (take count (drop sent input))) p q → IsDenied (next_write size input sent) p q
+denied_next size part stream count input sent p q same at is d =
+    subst (λ (z : ℕ). IsDenied (next_write z input sent) p q) same
+    (subst (λ (k : ℕ). IsDenied (Write Client k (next_piece part input sent)) p q) at (subst (λ (n : ℕ). IsDenied (Write Client stream (take n (drop sent input))) p q) is d))
 
 -- one place more
 pub whole_more : (size bytes sent here count : ℕ) → AreWhole size bytes sent here count → IsWhole size bytes sent count → AreWhole size bytes sent here (count + 1)

@@ -1,4 +1,5 @@
-use Rattle.std.proofs.Common.{ℕ, length, sym, subst}
+use Rattle.std.proofs.Common.{ℕ, length, sym, subst, le_trans, lt_of_le_of_lt, arith}
+use Rattle.std.proofs.lemmas.Bool.{eqb-true}
 use Rattle.st_world_parts.specs.Sides.{Client, Server}
 use Rattle.ilpstream_local.specs.Parts.{part_size}
 use Rattle.ilpstream_local.specs.Schedule.{BeginsRound, BeginsTurn, Turn, WritesOn}
@@ -120,3 +121,45 @@ returns-else-progress-input-clause-round g c =
       reads = c.in_ok-read_streams.ensures.reads;
       server = subst (λ (n : ℕ). Turn Server n c.send_server.new.counts.returned c.read_streams.new.play c.send_server.new.play) c.send_client.ensures.returned c.in_ok-send_server.ensures.turn;
     }
+
+pub returns-then-progress-input-clause-within : goal.returns-then-progress-input-clause-within
+returns-then-progress-input-clause-within g c = c.write_all.ensures.within
+
+pub returns-then-progress-input-clause-counted : goal.returns-then-progress-input-clause-counted
+returns-then-progress-input-clause-counted g c = c.in_ok-send_server.ensures.counted
+
+pub returns-then-progress-input-clause-over : goal.returns-then-progress-input-clause-over
+returns-then-progress-input-clause-over g c = (λ yes. (c.if-progress-input.true, c.have_ended.ensures.told.0 yes), λ over. c.have_ended.ensures.told.1 over.1)
+
+pub returns-then-progress-input-clause-done : goal.returns-then-progress-input-clause-done
+returns-then-progress-input-clause-done g c = λ yes. (c.if-progress-input.true, c.have_ended.ensures.whole yes)
+
+pub returns-then-progress-input-clause-run : goal.returns-then-progress-input-clause-run
+returns-then-progress-input-clause-run g c = λ _. c.have_ended.ensures.run
+
+pub returns-then-progress-input-clause-more : goal.returns-then-progress-input-clause-more
+returns-then-progress-input-clause-more g c = omega (arith, c.write_all.ensures.sent.events, c.close_written.ensures.kept.events, c.in_ok-send_client.ensures.some, c.read_streams.ensures.kept.events, c.send_server.ensures.kept.events)
+
+pub returns-then-progress-input-clause-room : goal.returns-then-progress-input-clause-room
+returns-then-progress-input-clause-room g c = lt_of_le_of_lt (le_trans c.write_all.ensures.sent.events c.close_written.ensures.kept.events) c.in_ok-send_client.ensures.room
+
+pub returns-else-progress-input-clause-within : goal.returns-else-progress-input-clause-within
+returns-else-progress-input-clause-within g c = c.write_all.ensures.within
+
+pub returns-else-progress-input-clause-counted : goal.returns-else-progress-input-clause-counted
+returns-else-progress-input-clause-counted g c = c.in_ok-send_server.ensures.counted
+
+pub returns-else-progress-input-clause-over : goal.returns-else-progress-input-clause-over
+returns-else-progress-input-clause-over g c = (λ yes. absurd (c.if-progress-input.false (eqb-true _ _ yes)), λ over. absurd (c.if-progress-input.false over.0))
+
+pub returns-else-progress-input-clause-done : goal.returns-else-progress-input-clause-done
+returns-else-progress-input-clause-done g c = λ yes. absurd (c.if-progress-input.false (eqb-true _ _ yes))
+
+pub returns-else-progress-input-clause-run : goal.returns-else-progress-input-clause-run
+returns-else-progress-input-clause-run g c = λ yes. absurd (c.if-progress-input.false (eqb-true _ _ yes))
+
+pub returns-else-progress-input-clause-more : goal.returns-else-progress-input-clause-more
+returns-else-progress-input-clause-more g c = omega (arith, c.write_all.ensures.sent.events, c.close_written.ensures.kept.events, c.in_ok-send_client.ensures.some, c.read_streams.ensures.kept.events, c.send_server.ensures.kept.events)
+
+pub returns-else-progress-input-clause-room : goal.returns-else-progress-input-clause-room
+returns-else-progress-input-clause-room g c = lt_of_le_of_lt (le_trans c.write_all.ensures.sent.events c.close_written.ensures.kept.events) c.in_ok-send_client.ensures.room
