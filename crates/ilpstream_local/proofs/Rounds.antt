@@ -152,7 +152,7 @@ writes_one k xs p q b = elim b [
   | inr one ↦ (Write Client k xs ∷ [], (tt, tt), one)
 ]
 
--- a write of the bytes that come next, by the numbers that are at hand
+-- a write of the next bytes, by the numbers that are at hand
 pub denied_next : (size part stream count : ℕ) (input : List ℕ) (sent : ℕ) (p q : Played) → part ≡ size → stream ≡ stream_at (sent / part)
     → count ≡ min (min 16384 (part - sent % part)) (length input - sent) → IsDenied (Write Client stream (take count (drop sent input))) p q → IsDenied (next_write size input sent) p q
 denied_next size part stream count input sent p q same at is d =
