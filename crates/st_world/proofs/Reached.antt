@@ -65,7 +65,7 @@ meets_below r told w after link hop which now p e met =
 
 -- ---- outcomes
 
--- at the place where it arrives
+-- at the place of whoever sent the Prepare
 pub backs_there : {T E : Type 0} (r : Result T E) (told : T → Told) (w after : World) (link : ℕ) (way : Side) (j : ℕ) (now : ℤ) (p : SentPrepare) (outcome : Option (List ℕ)) (place : Place) → near w link way ≡ place → IfOk r (λ t. BackAt w link way j now p outcome place (told t) after)
     → IfOk r (λ t. BackAt w link way j now p outcome (near w link way) (told t) after)
 backs_there r told w after link way j now p outcome place is = subst (λ (x : Place). IfOk r (λ t. BackAt w link way j now p outcome x (told t) after)) (sym is)
