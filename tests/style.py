@@ -2,8 +2,8 @@
 """Checks how the scripts in Python of tests and tools are written. Each file begins with a docstring, and a function has at most
 40 lines. Imports are at the top, one module a line, and each name that is imported is used. `ruff check` finds more, by ruff.toml: if
 ruff is not installed, that is skipped, and a line says so. The files of the crates have the layout that `rattle fmt` writes: `rt ci`
-asks for it crate by crate, and this test for all in some seconds. Each finding is a line; the last line counts the files without and
-with a finding."""
+asks for it crate by crate, and this test for all in some seconds. A file of src/ that no script wrote has at most 450 lines, and a
+clause at most 240 columns. Each finding is a line; the last line counts the files without and with a finding."""
 import ast
 import re
 import shutil
@@ -12,6 +12,8 @@ import subprocess
 from repository import TOP, files, kit, read, read_crates
 
 LINES = 40  # of a function
+FILE_LINES, COLUMNS = 450, 240  # of a file of src/
+GENERATED = {"crates/st_aes/src/planes.rt", "crates/st_aes/src/wide_planes.rt", "crates/ilpstream_output/src/explanations.rt"}
 FUNCTIONS = (ast.FunctionDef, ast.AsyncFunctionDef)
 
 
@@ -83,6 +85,22 @@ def out_of_layout():
     return len(paths), found if ran.returncode else []
 
 
+def too_large(path, text):
+    """What is too long in a file of src/."""
+    lines = text.splitlines()
+    if len(lines) > FILE_LINES and path not in GENERATED:
+        yield f"{path}: {len(lines)} lines; at most {FILE_LINES}"
+    for number, line in enumerate(lines, 1):
+        if len(line) > COLUMNS and not line.lstrip().startswith(("ghost use ", "#[tactic(")):
+            yield f"{path}:{number}: {len(line)} columns; at most {COLUMNS}"
+
+
+def sources():
+    """How many files of src/ there are, and what is too long in them."""
+    paths = files("crates/*/src/**/*.rt")
+    return len(paths), [said for path in paths for said in too_large(path, read(path))]
+
+
 def main():
     for text, wanted in PLANTED.items():
         found = sorted(told for _, told in findings(text))
@@ -98,9 +116,9 @@ def main():
     for path, found in others.items():
         print("".join(f"{path}{it}\n" for it in found), end="")
     failed += len(others)
-    laid_out, others = out_of_layout()
-    print("".join(f"{it}\n" for it in others), end="")
-    passed, failed = passed + laid_out - len(others), failed + len(others)
+    for number, found in (out_of_layout(), sources()):
+        print("".join(f"{it}\n" for it in found), end="")
+        passed, failed = passed + number - len(found), failed + len(found)
     print(f"{passed} passed, {failed} failed")
     return 1 if failed else 0
 

@@ -1,6 +1,6 @@
 //! The state of a hop: accounts, routes and pending Prepares.
 
-ghost use Rattle.std.specs.Prelude.{◌≡◌, ◌<◌, ◌≤◌, ◌≤ℤ◌, pos, ◌+◌, ◌^◌, false, length, map, sum, IfOk, IfErr, OnErr, IsErrOf, IsTrue, IsOkUnless, ◌↔◌, nat_lt, slice_index, if◌then◌else◌, None, MatchBool};
+ghost use Rattle.std.specs.Prelude.{◌≡◌, ◌<◌, ◌≤◌, ◌≤ℤ◌, pos, ◌^◌, false, length, map, sum, IfOk, IfErr, OnErr, IsErrOf, IsTrue, IsOkUnless, ◌↔◌, nat_lt, slice_index, if◌then◌else◌, None, MatchBool};
 ghost use Rattle.st_oer.specs.Ratios.{exchanged};
 ghost use Rattle.st_ilp.specs.Writing.{prepare_refusal};
 ghost use Rattle.st_ilp.specs.Seen.{prepare_seen};
@@ -14,7 +14,7 @@ ghost use Rattle.st_hop.specs.Table.{is_table, new_hop, RefusesBadTable};
 ghost use Rattle.st_hop.specs.Lawful.{IsLawful};
 ghost use Rattle.st_hop.specs.Seen.{way_seen, verdict_seen, IsReady, GoesAcross};
 
-use crate::account::{Account, raise, zeros};
+use crate::account::{Account, is_beyond, raise, zeros};
 use crate::books::totals_of;
 use crate::error::HopError;
 use crate::refusal::Refusal;
@@ -105,14 +105,6 @@ impl<A: Allocator + Copy> Model for HopState<A> {
       next = s.next;
     })
         s.held.items s.all_claims s.all_dues s.claimed s.due s.waiting.entries s.t00.items };
-}
-
-/// Whether an amount is above what the account's limit leaves.
-fn is_beyond(account: &Account, claims: u64, held: u64, dues: u64, amount: u64) -> bool
-    ensures { result ≡ nat_lt (account.now.limit + dues) (claims + held + amount) }
-{
-    u128::from(account.limit) + u128::from(dues)
-        < u128::from(claims) + u128::from(held) + u128::from(amount)
 }
 
 /// The Prepare that is forwarded at a rate.

@@ -1,15 +1,14 @@
 #!/usr/bin/env python3
-"""Prints what took longest in the last check of a crate with `--incremental`, as drafts/prove.py makes it.
+"""Prints what took longest in the last check of a crate with `--incremental`, as tools/prove.py makes it.
 
-drafts/slow.py CRATE [N]     the N longest gaps, 15 if it is not given, between two files that the check wrote
+tools/slow.py CRATE [N]     the N longest gaps, 15 if it is not given, between two files that the check wrote
 
 A check writes a file for each module once it has it, so a gap is the time of the file after it. With several jobs others worked at
 the same time, and what a function's search took stands before its `Key`. A module `F.Lts` has what is alive at each way out of F."""
 import os
 import sys
 
-sys.path.insert(0, os.path.join(os.path.dirname(os.path.realpath(__file__)), "..", "tools"))
-from crates import TOP  # noqa: E402
+from crates import TOP
 
 
 def written(folder):

@@ -1,7 +1,7 @@
 #!/usr/bin/env python3
 """Proves crates of this clone over the libraries that `rt ci` left in another one, for whoever works on several crates at once.
 
-    BASE=CLONE drafts/prove.py [--only FN].. [--start FN].. [--jobs N] [--test] [--holes] [--short] [--fresh] CRATE ..
+    BASE=CLONE tools/prove.py [--only FN].. [--start FN].. [--jobs N] [--test] [--holes] [--short] [--fresh] CRATE ..
 
 A crate below CRATE whose files equal those of the base, as do those of all below it, is taken from the base's crates/X/out/rlib. The
 others are proved and built first, into crates/X/out/built. What was checked is kept in crates/X/out/kept, but for --fresh. --only and
@@ -13,8 +13,7 @@ import subprocess
 import sys
 import time
 
-sys.path.insert(0, os.path.join(os.path.dirname(os.path.realpath(__file__)), "..", "tools"))
-import crates as repository  # noqa: E402
+import crates as repository
 
 TOP, BASE = repository.TOP, os.environ["BASE"]
 EVERY, AT = repository.read_crates(), repository.kit()

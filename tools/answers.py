@@ -1,7 +1,7 @@
 #!/usr/bin/env python3
 """Answers the goals of functions by `grind`, where the prover's own search takes long.
 
-    BASE=CLONE drafts/answers.py CRATE MODULE::FN ..
+    BASE=CLONE tools/answers.py CRATE MODULE::FN ..
 
 Under `#![tactic(auto)]` the prover tries `search rules` on a goal, and `grind` if that fails. A search that fails can take seconds.
 This script works on a copy of the crate in CRATES/CRATE of a folder of its own, which it names, over the libraries in the clone BASE
@@ -17,8 +17,7 @@ import sys
 import tempfile
 import time
 
-sys.path.insert(0, os.path.join(os.path.dirname(os.path.realpath(__file__)), "..", "tools"))
-import crates as repository  # noqa: E402
+import crates as repository
 
 BASE, HOW, ONLY = os.environ.get("BASE", ""), os.environ.get("HOW", "grind (arith, common_steps)"), os.environ.get("ONLY", "")
 EVERY, AT = repository.read_crates(), repository.kit()
