@@ -1,13 +1,13 @@
 #!/usr/bin/env python3
-"""Answers the goals of functions by `grind`, where the prover's own search takes long.
+"""Answers the goals of functions by `grind`, if the prover's own search takes long.
 
     BASE=CLONE tools/answers.py CRATE MODULE::FN ..
 
 Under `#![tactic(auto)]` the prover tries `search rules` on a goal, and `grind` if that fails. A search that fails can take seconds.
 This script works on a copy of the crate in CRATES/CRATE of a folder of its own, which it names, over the libraries in the clone BASE
 (`crates/X/out/rlib`). It lists the goals of each function that have no answer, answers each by `grind (arith, common_steps)`, takes away
-the answers that do not hold, and prints how long each module took. What pays is copied by hand, once a check from nothing shows it: the
-first check with the answers is over kept proofs. HOW=TERM is another answer, ONLY=PATTERN takes goals of these names alone."""
+the answers that do not hold, and prints how long each module took. What pays is copied manually, once a check from nothing shows it:
+the first check with the answers is over kept proofs. HOW=TERM is another answer, ONLY=PATTERN takes goals of these names alone."""
 import collections
 import os
 import re

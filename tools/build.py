@@ -19,18 +19,17 @@ import time
 from crates import BUILT, TOP, kit, read_crates, with_below, words
 
 PROGRAM = "ilpstream"
-# The processor's seconds that each crate takes from nothing, four at a time, by the table in docs/GATE.md; those that are not here take OTHER.
-# The gate compiles the program twice, so here it has half of what is in that table.
+# The processor's seconds that each crate took from nothing with one job, in the first run of docs/PERFORMANCE.md; those that are not
+# here take OTHER.
 WEIGHTS = {
-    "st_hop_books": 780, "ilpstream_words": 583, "ilpstream_ends": 566, "st_sender": 565, "ilpstream_net": 552, "st_hub": 521,
-    "st_world": 505, "ilpstream_connector": 381, "st_end": 368, "st_world_parts": 361, "ilpstream_settings": 347,
-    "st_receiver": 294, "ilpstream_log": 278, "ilpstream_serving": 274, "ilpstream_frames": 251, "st_hop": 247, "st_aes": 245,
-    "ilpstream_local": 236, "ilpstream": 231, "st_http": 225, "st_hop_desk": 224, "ilpstream_ledger": 223, "ilpstream_main": 217,
-    "ilpstream_transfer": 196, "st_unacked": 181, "st_ilp": 157, "st_frames": 157, "st_queues": 150, "st_reassembly": 130,
-    "st_oer": 107, "st_lanes": 82, "st_file": 80, "st_devices": 77, "st_keys": 55, "st_links": 46, "ilpstream_output": 55,
-    "st_streams": 34,
+    "st_hop_books": 476, "ilpstream_ends": 356, "ilpstream_net": 325, "st_sender": 308, "st_hub": 273, "st_world": 260,
+    "ilpstream_words": 250, "st_end": 229, "ilpstream_settings": 200, "ilpstream_connector": 200, "ilpstream": 200,
+    "st_world_parts": 189, "st_receiver": 183, "ilpstream_frames": 164, "st_hop": 159, "ilpstream_log": 154, "ilpstream_serving": 142,
+    "st_http": 141, "ilpstream_local": 140, "st_hop_desk": 133, "st_aes": 126, "ilpstream_ledger": 126, "ilpstream_main": 115,
+    "ilpstream_transfer": 105, "st_ilp": 98, "st_frames": 96, "st_unacked": 88, "st_queues": 78, "st_reassembly": 66, "st_oer": 52,
+    "st_file": 52, "st_lanes": 40, "ilpstream_output": 35, "st_devices": 34, "st_keys": 29, "st_links": 28, "st_streams": 15,
 }
-OTHER = 100
+OTHER = 80
 # Memory in bytes: what a check takes at most, and what each further job of it takes.
 CHECK, JOB = 3_500_000_000, 1_000_000_000
 # A further job does a third as much as the first: with two a crate takes half as much of the processor again. So crates side by side

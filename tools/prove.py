@@ -3,7 +3,7 @@
 
     BASE=CLONE tools/prove.py [--only FN].. [--start FN].. [--jobs N] [--test] [--holes] [--short] [--fresh] CRATE ..
 
-A crate below CRATE whose files equal those of the base, as do those of all below it, is taken from the base's crates/X/out/rlib. The
+If the files of a crate below CRATE, and of all below it, equal those of the base, its library is the base's crates/X/out/rlib. The
 others are proved and built first, into crates/X/out/built. What was checked is kept in crates/X/out/kept, but for --fresh. --only and
 --start are those of `rattle check`, --holes is --allow-holes, --short is --short-goals. --test proves the tests and builds their program."""
 import argparse
@@ -86,7 +86,7 @@ def prove(crate, asked, whole):
 
 
 def need(crate, asked):
-    """Proves and builds what a crate stands on."""
+    """Proves and builds the crates below one."""
     for it in below(crate):
         need(it, asked)
         if not is_made(it) and (is_same(it) or prove(it, asked, False)):

@@ -4,7 +4,7 @@
 tools/slow.py CRATE [N]     the N longest gaps, 15 if it is not given, between two files that the check wrote
 
 A check writes a file for each module once it has it, so a gap is the time of the file after it. With several jobs others worked at
-the same time, and what a function's search took stands before its `Key`. A module `F.Lts` has what is alive at each way out of F."""
+the same time, and the time of a function's search is the gap before its `Key`. A module `F.Lts` has what is alive at each way out of F."""
 import os
 import sys
 
