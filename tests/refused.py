@@ -266,10 +266,16 @@ def try_crate(crate, edits, budget=None):
             if budget and prover.spent > budget:
                 break
             tried = prover.attempt(group, kept, budget)
-            found.lines += [f"{crate}/{name}: {what}" for name, what in tried.items()]
+            # (at once, so that a run which is stopped has shown what it tried)
+            say([f"{crate}/{name}: {what}" for name, what in tried.items()])
             found.refused += [*tried.values()].count(REFUSED)
             found.tried, found.seconds = found.tried + len(tried), prover.spent
     return found
+
+
+def say(lines):
+    """Prints lines together, while other threads print theirs."""
+    print("".join(f"{it}\n" for it in lines), end="", flush=True)
 
 
 def compile_crate(crate, edits):
@@ -291,8 +297,8 @@ def lanes():
 
 
 def try_all(edits, others=(), how=try_crate):
-    """Tries edits, crates side by side, those of the highest first, and prints the outcome of each. Before them it begins with others,
-    a crate and its edits, for the time of a rotation."""
+    """Tries edits, crates side by side, those of the highest first, and prints the outcome of each group once it is tried. Before them
+    it begins with others, a crate and its edits, for the time of a rotation."""
     order = repository.read_crates()
     by_crate = {crate: [it for it in edits if it.crate == crate] for crate in reversed(order)}
     with concurrent.futures.ThreadPoolExecutor(lanes()) as pool:
@@ -300,7 +306,7 @@ def try_all(edits, others=(), how=try_crate):
         works += [pool.submit(how, crate, found) for crate, found in by_crate.items() if found]
         for work in concurrent.futures.as_completed(works):
             found = work.result()
-            print(*found.lines, f"{found.crate}: {found.seconds:.0f} seconds of the processor", sep="\n", flush=True)
+            say([*found.lines, f"{found.crate}: {found.seconds:.0f} seconds of the processor"])
         tried = [it.result() for it in works]
     return sum(it.refused for it in tried), sum(it.tried for it in tried)
 

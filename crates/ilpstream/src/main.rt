@@ -5,5 +5,5 @@ use ilpstream_main::ilpstream;
 use std::process::ExitCode;
 
 fn main(rt: HostRuntime) -> ExitCode {
-    ilpstream(&rt, &rt, &rt)
+    ilpstream(&rt, &rt)
 }

@@ -145,10 +145,9 @@ pub fn start<
 }
 
 /// Runs the program `ilpstream` and returns its exit code. `host` gives the arguments and the standard streams of the
-/// process; `rt`, the same runtime, gives files, sockets, threads and the time, and `opener`, again the same, opens books.
-/// A read of standard input for which nothing arrives within 200 milliseconds is interrupted, and made again. Before
-/// anything else is opened, the number of each closed standard stream is reserved, so that no file that is opened later has
-/// it.
+/// process, and opens books. `rt`, the same runtime, gives files, sockets, threads and the time. A read of standard input
+/// for which nothing arrives within 200 milliseconds is interrupted, and made again. Before anything else is opened, the
+/// number of each closed standard stream is reserved, so that no file that is opened later has it.
 pub fn ilpstream<
     N: Net<Listener = TcpListener, Stream = TcpStream>
         + Files<File = File>
@@ -156,8 +155,7 @@ pub fn ilpstream<
         + Wait
         + std::time::Clock
         + Sync,
-    O: OpensBooks,
->(host: &HostRuntime, rt: &N, opener: &O) -> ExitCode {
+>(host: &HostRuntime, rt: &N) -> ExitCode {
     let held = Held::new(rt);
     let streams = held.streams();
     let input = host.stdin();
@@ -167,7 +165,7 @@ pub fn ilpstream<
     let mut errors = CountWrite::new(host.stderr());
     ExitCode::from(start(
         rt,
-        opener,
+        host,
         host.alloc(),
         host,
         streams,
