@@ -1,4 +1,5 @@
 pub mod Pieces
+pub mod Transfers
 pub mod WordsTaken
 pub mod Asked
 pub mod Tables

@@ -21,7 +21,7 @@ use Rattle.ilpstream_main.specs.Ledger.{EndsLedger}
 use Rattle.ilpstream_main.specs.Local as ends
 use Rattle.ilpstream_main.specs.Local.{EndsLocal}
 use Rattle.ilpstream_output.specs.Explain.{Explains}
-use Rattle.ilpstream_transfer.specs.Transfers.{EndsReceive, EndsSend}
+use Rattle.ilpstream_main.specs.Transfers.{EndsReceive, EndsSend}
 use Rattle.ilpstream_main.specs.Words.{MayRefuse, MayShow}
 use Rattle.ilpstream_net.specs.Table.{EndsConnector}
 

@@ -11,6 +11,8 @@ ghost use Rattle.ilpstream_main.specs.Process.{Obeys};
 
 use crate::ledger::ledger;
 use crate::local::local;
+use crate::receive::run_receive;
+use crate::send::run_send;
 use crate::streams::{Streams, missing};
 use crate::tell::{tell_end, tell_number, tell_terminal};
 use clap::Error;
@@ -19,7 +21,6 @@ use ilpstream_frames::run_frames;
 use ilpstream_ledger::OpensBooks;
 use ilpstream_net::run_connector;
 use ilpstream_output::{Fault, TURNS, explain, put, say, tell_fault};
-use ilpstream_transfer::{run_receive, run_send};
 use ilpstream_words::{Request, WordsError, broken_rule, read_words};
 use st_devices::{CountRead, CountWrite, Tally};
 use std::alloc::Global;

@@ -4,10 +4,10 @@ use Rattle.st_end.specs.Totals.{Totals}
 use Rattle.ilpstream_log.specs.declared.progress.Brief.{Brief}
 use Rattle.ilpstream_log.specs.declared.progress.Progress.{Progress}
 use Rattle.st_streams.specs.declared.blocked.Blocked.{Blocked}
-use Rattle.ilpstream_transfer.specs.declared.progress.Mark.{Mark}
-use Rattle.ilpstream_transfer.specs.declared.progress.Span.{Span}
-use Rattle.ilpstream_transfer.specs.declared.progress.Side.{Side}
-use Rattle.ilpstream_transfer.specs.declared.progress.Side.TheVariants as side
+use Rattle.ilpstream_main.specs.declared.progress.Mark.{Mark}
+use Rattle.ilpstream_main.specs.declared.progress.Span.{Span}
+use Rattle.ilpstream_main.specs.declared.progress.Side.{Side}
+use Rattle.ilpstream_main.specs.declared.progress.Side.TheVariants as side
 
 -- the bytes of an end: those that a sender accepted, or a receiver delivered
 abbrev pub bytes_of : Side → Totals → ℕ

@@ -1,6 +1,6 @@
 use Rattle.st_devices.specs.Tallies.{device_of}
-use Rattle.ilpstream_transfer.proofs.Transfers.{received}
-use Rattle.ilpstream_transfer.proofs.receive.transfer.Goals as goal
+use Rattle.ilpstream_main.proofs.Transfers.{received}
+use Rattle.ilpstream_main.proofs.receive.transfer.Goals as goal
 
 pub returns-clause-made : goal.returns-clause-made
 returns-clause-made g c =

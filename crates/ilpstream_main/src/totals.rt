@@ -5,8 +5,8 @@ ghost use Rattle.std.specs.Io.KnownBytes.{Appends};
 ghost use Rattle.st_devices.specs.Tallies.{device_of};
 ghost use Rattle.ilpstream_ends.specs.Outcomes.{no_totals};
 ghost use Rattle.ilpstream_net.specs.declared.error.RunError.TheVariants.{BadOption};
-ghost use Rattle.ilpstream_transfer.specs.Totals as spec;
-ghost use Rattle.ilpstream_transfer.specs.Transfers.{IsToldIn};
+ghost use Rattle.ilpstream_main.specs.Totals as spec;
+ghost use Rattle.ilpstream_main.specs.Transfers.{IsToldIn};
 
 use ilpstream_net::{Obstacle, RunError, Step};
 use ilpstream_output::{Fault, TURNS, put};

@@ -14,10 +14,10 @@ use Rattle.ilpstream_settings.specs.declared.settings.ReceiveSettings.{ReceiveSe
 use Rattle.ilpstream_settings.specs.declared.settings.SendSettings.{SendSettings}
 use Rattle.ilpstream_settings.specs.declared.source.Secret.{Secret}
 use Rattle.ilpstream_settings.specs.declared.source.Token.{Token}
-use Rattle.ilpstream_transfer.specs.Credentials.{AreOf, HasSecret, WhyNotOpened}
-use Rattle.ilpstream_transfer.specs.declared.credentials.Credentials.{Credentials}
+use Rattle.ilpstream_main.specs.Credentials.{AreOf, HasSecret, WhyNotOpened}
+use Rattle.ilpstream_main.specs.declared.credentials.Credentials.{Credentials}
 use Rattle.ilpstream_net.specs.Totals.{ended_with}
-use Rattle.ilpstream_transfer.specs.Transfers.{EndsAsked, EndsReceive, EndsSend, EndsTold, IsPatient, IsToldIn, ReceivesBy, ReceivesNothing, SendsBy, SendsNothing, TransfersIn, TransfersOut, receiver_end, receiver_result, sender_end, sender_result}
+use Rattle.ilpstream_main.specs.Transfers.{EndsAsked, EndsReceive, EndsSend, EndsTold, IsPatient, IsToldIn, ReceivesBy, ReceivesNothing, SendsBy, SendsNothing, TransfersIn, TransfersOut, receiver_end, receiver_result, sender_end, sender_result}
 use Rattle.ilpstream_net.specs.declared.error.RunError.{RunError}
 use Rattle.ilpstream_net.specs.declared.error.RunError.TheVariants as run
 

@@ -6,9 +6,9 @@ ghost use Rattle.st_end.specs.declared.error.EndError.TheVariants as refusals;
 ghost use Rattle.ilpstream_ends.specs.Outcomes.{no_totals};
 ghost use Rattle.ilpstream_serving.specs.declared.error.TransferError.TheVariants as transfer;
 ghost use Rattle.ilpstream_output.specs.declared.error.Fault.TheVariants.{NoMemory};
-ghost use Rattle.ilpstream_transfer.specs.Credentials.{AreOf};
-ghost use Rattle.ilpstream_transfer.specs.Settings.{IsSender};
-ghost use Rattle.ilpstream_transfer.specs.Transfers.{AreTermsOut, EndsSend, IsNeighbourOf, SendsBy, TransfersOut, sender_end, sender_result, widest as widest_config};
+ghost use Rattle.ilpstream_main.specs.Credentials.{AreOf};
+ghost use Rattle.ilpstream_main.specs.Settings.{IsSender};
+ghost use Rattle.ilpstream_main.specs.Transfers.{AreTermsOut, EndsSend, IsNeighbourOf, SendsBy, TransfersOut, sender_end, sender_result, widest as widest_config};
 ghost use Rattle.ilpstream_net.specs.declared.error.RunError.TheVariants.{BadOption, Fault as IsFault, NoRandom, Transfer};
 
 use crate::credentials::Credentials;

@@ -3,7 +3,7 @@
 ghost use Rattle.std.specs.Prelude.{◌≡◌};
 ghost use Rattle.std.specs.Duration.{as_nanos};
 ghost use Rattle.std.specs.Time.{instant_nanos};
-ghost use Rattle.ilpstream_transfer.specs.Progress as spec;
+ghost use Rattle.ilpstream_main.specs.Progress as spec;
 
 use crate::totals::put_totals_now;
 use ilpstream_log::{Blocked, Brief, Progress, shown};

@@ -1,5 +1,5 @@
-use Rattle.ilpstream_transfer.proofs.Transfers.{sent}
-use Rattle.ilpstream_transfer.proofs.send.transfer.Goals as goal
+use Rattle.ilpstream_main.proofs.Transfers.{sent}
+use Rattle.ilpstream_main.proofs.send.transfer.Goals as goal
 
 pub returns-clause-made : goal.returns-clause-made
 returns-clause-made g c =

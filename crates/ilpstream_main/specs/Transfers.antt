@@ -24,10 +24,10 @@ use Rattle.ilpstream_output.specs.declared.error.Fault.{Fault}
 use Rattle.ilpstream_output.specs.declared.error.Fault.TheVariants as fault
 use Rattle.ilpstream_settings.specs.declared.settings.ReceiveSettings.{ReceiveSettings}
 use Rattle.ilpstream_settings.specs.declared.settings.SendSettings.{SendSettings}
-use Rattle.ilpstream_transfer.specs.Credentials.{HasSecret, WhyNotOpened}
+use Rattle.ilpstream_main.specs.Credentials.{HasSecret, WhyNotOpened}
 use Rattle.ilpstream_net.specs.Totals.{ended_with}
-use Rattle.ilpstream_transfer.specs.Totals.{totals_text}
-use Rattle.ilpstream_transfer.specs.declared.credentials.Credentials.{Credentials}
+use Rattle.ilpstream_main.specs.Totals.{totals_text}
+use Rattle.ilpstream_main.specs.declared.credentials.Credentials.{Credentials}
 use Rattle.ilpstream_net.specs.declared.error.RunError.{RunError}
 use Rattle.ilpstream_net.specs.declared.error.RunError.TheVariants as run
 

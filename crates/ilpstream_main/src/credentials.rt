@@ -5,8 +5,8 @@ ghost use Rattle.st_devices.specs.Tallies.{device_of, tally_of};
 ghost use Rattle.st_http.specs.Texts as texts;
 ghost use Rattle.ilpstream_output.specs.declared.error.Fault.TheVariants.{NoMemory};
 ghost use Rattle.ilpstream_settings.specs.Sources.{IsSecret, IsToken};
-ghost use Rattle.ilpstream_transfer.specs.Credentials.{AreOf, ComesOfLine, HasSecret, HasToken, IsLawfulToken, WhyNotOpened};
-ghost use Rattle.ilpstream_transfer.specs.Credentials as spec;
+ghost use Rattle.ilpstream_main.specs.Credentials.{AreOf, ComesOfLine, HasSecret, HasToken, IsLawfulToken, WhyNotOpened};
+ghost use Rattle.ilpstream_main.specs.Credentials as spec;
 ghost use Rattle.ilpstream_net.specs.declared.error.RunError.TheVariants.{Fault as IsFault};
 
 use ilpstream_net::{Obstacle, RunError, Step, read_whole};

@@ -1,8 +1,8 @@
 //! How the commands `send` and `receive` begin and end.
 
 ghost use Rattle.std.specs.Prelude.{◌≡◌, ◌≢◌, Err, IfErr, IfOk, IsNone, IsSome};
-ghost use Rattle.ilpstream_transfer.specs.Credentials.{AreOf, IsLawfulToken, WhyNotOpened};
-ghost use Rattle.ilpstream_transfer.specs.Transfers.{EndsTold};
+ghost use Rattle.ilpstream_main.specs.Credentials.{AreOf, IsLawfulToken, WhyNotOpened};
+ghost use Rattle.ilpstream_main.specs.Transfers.{EndsTold};
 ghost use Rattle.ilpstream_net.specs.declared.error.RunError.TheVariants.{BadOption};
 
 use crate::credentials::{Credentials, credentials_of};

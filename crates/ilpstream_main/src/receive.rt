@@ -4,9 +4,9 @@ ghost use Rattle.std.specs.Prelude.{◌≡◌, ◌≢◌, Err, IfOk, IsNone, IsO
 ghost use Rattle.st_devices.specs.Tallies.{device_of};
 ghost use Rattle.st_end.specs.declared.error.EndError.TheVariants as refusals;
 ghost use Rattle.ilpstream_serving.specs.declared.error.TransferError.TheVariants as transfer;
-ghost use Rattle.ilpstream_transfer.specs.Credentials.{AreOf};
-ghost use Rattle.ilpstream_transfer.specs.Settings.{IsReceiver};
-ghost use Rattle.ilpstream_transfer.specs.Transfers.{AreTermsIn, EndsReceive, ReceivesBy, TransfersIn, receiver_end, receiver_result};
+ghost use Rattle.ilpstream_main.specs.Credentials.{AreOf};
+ghost use Rattle.ilpstream_main.specs.Settings.{IsReceiver};
+ghost use Rattle.ilpstream_main.specs.Transfers.{AreTermsIn, EndsReceive, ReceivesBy, TransfersIn, receiver_end, receiver_result};
 ghost use Rattle.ilpstream_net.specs.declared.error.RunError.TheVariants.{BadOption, NoListener, Transfer};
 
 use crate::credentials::Credentials;
