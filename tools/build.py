@@ -33,6 +33,9 @@ WEIGHTS = {
 OTHER = 80
 # Memory in bytes: what a check takes at most, and what each further job of it takes.
 CHECK, JOB = 3_500_000_000, 1_000_000_000
+# A folder whose files are in memory, and the free bytes that it has to have for each processor. The prover writes 1,500 short files there
+# for a small crate.
+IN_MEMORY, SCRATCH = "/dev/shm", 500_000_000
 # A further job does a third as much as the first: with two a crate takes half as much of the processor again. So crates side by side
 # make better use of the processors, up to this number of them.
 FEW, FURTHER = 4, 0.33
@@ -115,6 +118,18 @@ def memory():
     """The free memory in bytes."""
     with open("/proc/meminfo", encoding="ascii") as lines:
         return next(1024 * int(line.split()[1]) for line in lines if line.startswith("MemAvailable:"))
+
+
+def scratch_folder(count):
+    """The folder for temporary files: one in memory if it has room for so many processors, and otherwise the usual one. TMPDIR says
+    another one."""
+    if "TMPDIR" in os.environ:
+        return None
+    try:
+        has_room = os.access(IN_MEMORY, os.W_OK) and shutil.disk_usage(IN_MEMORY).free >= count * SCRATCH
+    except OSError:
+        has_room = False
+    return IN_MEMORY if has_room else None
 
 
 def processors():
@@ -233,7 +248,7 @@ def begin(crate, jobs, logs, every, at):
         shutil.rmtree(f"{folder}/out/built", ignore_errors=True)
         os.mkdir(f"{folder}/out/built")
         command += ["--statements", "-o", library(crate)]
-    how = {"cwd": folder, "stdin": subprocess.DEVNULL, "stderr": subprocess.STDOUT}
+    how = {"cwd": folder, "stdin": subprocess.DEVNULL, "stderr": subprocess.STDOUT, "env": {**os.environ, "TMPDIR": logs}}
     with open(f"{logs}/{crate}", "wb") as log:
         return subprocess.Popen(command, stdout=log, **how)
 
@@ -295,7 +310,7 @@ def main(arguments):
     print("ilpstream: proving and building the program first; ./try frames shows it at once, unproved", file=sys.stderr)
     # (what changes from here on is newer than the program)
     begun = time.time()
-    with tempfile.TemporaryDirectory() as logs:
+    with tempfile.TemporaryDirectory(dir=scratch_folder(processors())) as logs:
         status = build(crates, logs)
     if not status:
         os.utime(BUILT, (begun, begun))

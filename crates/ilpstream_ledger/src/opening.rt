@@ -1,15 +1,16 @@
 //! What opens the books of a file.
 
-ghost use Rattle.std.specs.Prelude.{ℕ, List, IfOk, ⊤};
+ghost use Rattle.std.specs.Prelude.{ℕ, List, IfOk};
 ghost use Rattle.st_hop_books.specs.Standing.{Kept};
 
-use crate::watched::{FileNames, Watcher};
-use sqlite::{FileFrom, FileStore, Unknown};
+use crate::watched::Watcher;
 use sqlite_trees::store::Alter;
-use st_hop_books::{Books, BooksError, open, open_existing};
+use st_hop_books::{Books, BooksError};
 use std::alloc::AllocError;
 
 /// What opens the books of a file. A program is generic over it, as it is over the runtime that gives files and sockets.
+/// It is implemented where the type of the store is chosen: an interface that names an SQLite store in files has some
+/// 300 further definitions in it, and so has each crate above.
 pub trait OpensBooks {
     /// What the books are kept in.
     type Store: Alter + Send + Drop;
@@ -34,27 +35,4 @@ pub trait OpensBooks {
 
     /// What inspects the files of books that were opened at a path. Fails if memory is refused.
     fn watcher(&self, path: &str) -> Result<Self::Watcher, AllocError>;
-}
-
-/// The runtime of a process opens the files of the system. Which books they hold, no clause can say.
-impl OpensBooks for HostRuntime {
-    type Store = FileStore<FileFrom<Unknown>>;
-
-    type Watcher = FileNames<HostRuntime>;
-
-    ghost finds = { λ _ _ _. ⊤ };
-
-    ghost finds_existing = { λ _ _ _. ⊤ };
-
-    fn open(&self, path: &str, own: &str) -> Result<Books<Self::Store>, BooksError> {
-        open(self, path, own, Unknown)
-    }
-
-    fn open_existing(&self, path: &str) -> Result<Books<Self::Store>, BooksError> {
-        open_existing(self, path, Unknown)
-    }
-
-    fn watcher(&self, path: &str) -> Result<Self::Watcher, AllocError> {
-        FileNames::new(*self, self.alloc(), path)
-    }
 }

@@ -24,6 +24,7 @@ mod receive;
 mod send;
 mod stdin;
 mod streams;
+mod system_books;
 mod tell;
 mod totals;
 
@@ -35,3 +36,4 @@ pub use program::run;
 pub use receive::run_receive;
 pub use send::run_send;
 pub use streams::Streams;
+pub use system_books::SystemBooks;

@@ -9,6 +9,7 @@ ghost use Rattle.ilpstream_main.specs.Texts.{not_utf8_text};
 use crate::program::run;
 use crate::stdin::{Interruptible, STDIN};
 use crate::streams::{Held, Streams};
+use crate::system_books::SystemBooks;
 use ilpstream_ledger::OpensBooks;
 use ilpstream_output::{Fault, say, tell_fault};
 use ilpstream_words::{Request, read_words};
@@ -145,7 +146,7 @@ pub fn start<
 }
 
 /// Runs the program `ilpstream` and returns its exit code. `host` gives the arguments and the standard streams of the
-/// process, and opens books. `rt`, the same runtime, gives files, sockets, threads and the time. A read of standard input
+/// process, and opens books (`SystemBooks`). `rt`, the same runtime, gives files, sockets, threads and the time. A read of standard input
 /// for which nothing arrives within 200 milliseconds is interrupted, and made again. Before anything else is opened, the
 /// number of each closed standard stream is reserved, so that no file that is opened later has it.
 pub fn ilpstream<
@@ -165,7 +166,7 @@ pub fn ilpstream<
     let mut errors = CountWrite::new(host.stderr());
     ExitCode::from(start(
         rt,
-        host,
+        &SystemBooks::new(host),
         host.alloc(),
         host,
         streams,

@@ -305,7 +305,7 @@ impl<S: Alter> Books<S> {
 impl<D: Disk + Drop> Books<FileStore<D>> {
     /// Copies the log into the database file, and empties it. A crash in it leaves these books. If it fails, the books are
     /// shut, and have to be opened again.
-    pub fn folded(self) -> Result<Books<FileStore<D>>, BooksError>
+    pub(crate) fn folded(self) -> Result<Books<FileStore<D>>, BooksError>
         ensures sums { IfOk result (λ b. (b.starts ≡ self.starts) × (b.names ≡ self.names) × (b.amounts ≡ self.amounts)) }
         ensures clean { IfOk result (λ b. IsClean (view b.store) → IsClean (view self.store)) }
         ensures same { IfOk result (λ b. IsClean (view b.store) → IsTrue (view b.store).is_open × (view b.store ≡ view self.store)) }

@@ -2,8 +2,7 @@
 use Rattle.std.proofs.Common.{◌≡◌, ◌≢◌, ℕ, ◌+◌, ◌≤◌, ◌++◌, cond, nat_eq, List, [], ◌∷◌, length, refl, sym, ap, subst, ◌∙◌, arith, inl, inr, Option, None, Some, Bool, true, false, ℤ, Result, Ok, Err}
 use Rattle.std.proofs.lemmas.Bool.{cases_eq}
 use Rattle.std.proofs.lemmas.Bool.Decides.{nat_tests}
-use Rattle.std.specs.Map.{lookup}
-use Rattle.indexmap.specs.IndexMap.{IndexMap, IsUnchanged, get}
+use Rattle.std.specs.HashMap.{HashMap, get}
 use Rattle.st_ilp.specs.Packets.{PreparePacket}
 use Rattle.st_ilp.specs.Reading.{prepare_at}
 use Rattle.st_ilp.specs.Spelling.{prepare_text}
@@ -63,10 +62,10 @@ forwards_hold h k account (Err why) now t outgoing text e = absurd (let first : 
 forwards_hold h k account (Ok p) now t outgoing text e = sent_holds h k account p (judged h account p now) t outgoing text e
 
 module _ {S : Type 0} where
-  pub kept_still : (ts : List Open) (old new : IndexMap ℕ Open S) → IsUnchanged old new → AreByNumber old ts → AreByNumber new ts
-  kept_still ts old new same by = λ n. ap (λ es. lookup (nat_eq n) es) same ∙ by n
+  pub kept_still : (ts : List Open) (old new : HashMap ℕ Open S) → ((n : ℕ) → get nat_eq new n ≡ get nat_eq old n) → AreByNumber old ts → AreByNumber new ts
+  kept_still ts old new same by = λ n. same n ∙ by n
 
-  pub kept_more : (h k : Hop) (t : Open) (account outgoing : ℕ) (bytes text : List ℕ) (now : ℤ) (old new : IndexMap ℕ Open S) → IsLawful h → arrived h account bytes now ≡ (Forwards t outgoing text, k) → AreByNumber old h.tickets
+  pub kept_more : (h k : Hop) (t : Open) (account outgoing : ℕ) (bytes text : List ℕ) (now : ℤ) (old new : HashMap ℕ Open S) → IsLawful h → arrived h account bytes now ≡ (Forwards t outgoing text, k) → AreByNumber old h.tickets
       → ((n : ℕ) → get nat_eq new n ≡ cond (nat_eq t.number n) (Some t) (get nat_eq old n)) → length h.accounts ≡ 2 → AreByNumber new k.tickets × (length k.accounts ≡ 2)
   kept_more h k t account outgoing bytes text now old new lawful goes by more two =
       let holds = forwards_hold h k account (prepare_at bytes) now t outgoing text goes in
@@ -79,14 +78,14 @@ module _ {S : Type 0} where
   -- ---- one less
 
   -- there was none of the number
-  pub kept_all : (ts : List Open) (n : ℕ) (old new : IndexMap ℕ Open S) → get nat_eq old n ≡ None → AreByNumber old ts → ((m : ℕ) → get nat_eq new m ≡ cond (nat_eq n m) None (get nat_eq old m)) → AreByNumber new ts
+  pub kept_all : (ts : List Open) (n : ℕ) (old new : HashMap ℕ Open S) → get nat_eq old n ≡ None → AreByNumber old ts → ((m : ℕ) → get nat_eq new m ≡ cond (nat_eq n m) None (get nat_eq old m)) → AreByNumber new ts
   kept_all ts n old new none by less = λ m. elim (cases_eq n m) [
     | inl same ↦ less m ∙ same_test n m None (get nat_eq old m) same ∙ sym none ∙ ap (λ i. get nat_eq old i) same ∙ by m
     | inr apart ↦ less m ∙ other_test n m None (get nat_eq old m) apart ∙ by m
   ]
 
   -- there was, and it is settled
-  pub kept_less : (h k : Hop) (t : Open) (outcome : Option (List ℕ)) (now : ℤ) (text : List ℕ) (n : ℕ) (old new : IndexMap ℕ Open S) → IsLawful h → KeepsRest h (settled h t outcome now).1 t → settled h t outcome now ≡ (text, k) → get nat_eq old n ≡ Some t
+  pub kept_less : (h k : Hop) (t : Open) (outcome : Option (List ℕ)) (now : ℤ) (text : List ℕ) (n : ℕ) (old new : HashMap ℕ Open S) → IsLawful h → KeepsRest h (settled h t outcome now).1 t → settled h t outcome now ≡ (text, k) → get nat_eq old n ≡ Some t
       → AreByNumber old h.tickets → ((m : ℕ) → get nat_eq new m ≡ cond (nat_eq n m) None (get nat_eq old m)) → length h.accounts ≡ 2 → AreByNumber new k.tickets × (length k.accounts ≡ 2)
   kept_less h k t outcome now text n old new lawful keeps is found by less two =
       let number : t.number ≡ n = found_number h.tickets n t (sym (by n) ∙ found) in

@@ -5,7 +5,7 @@ use Rattle.std.specs.declared.option.Option.{Option}
 use Rattle.std.specs.declared.option.Option.TheVariants.{None, Some}
 use Rattle.std.specs.Ordering.{nat_cmp}
 use Rattle.std.specs.FinMap as fmap
-use Rattle.indexmap.specs.IndexMap.{IndexMap, get}
+use Rattle.std.specs.HashMap.{HashMap, get}
 use Rattle.st_hop.specs.declared.ticket.Open.{Open}
 use Rattle.st_hop.specs.Tickets.{ticket_at}
 use Rattle.st_end.specs.declared.flight.Open as flights
@@ -24,7 +24,7 @@ abbrev pub IsTaken : {A : Type 0} → (xs : List A) → A → (ys : List A) → 
 IsTaken xs x ys = (i : ℕ) × (slice_get xs i ≡ Some x) × (ys ≡ remove xs i)
 
 -- the ticket that is open under a number is kept under it, and no other is
-abbrev pub AreByNumber : {S : Type 0} → IndexMap ℕ Open S → List Open → Type 0
+abbrev pub AreByNumber : {S : Type 0} → HashMap ℕ Open S → List Open → Type 0
 AreByNumber kept tickets = (n : ℕ) → get nat_eq kept n ≡ ticket_at tickets n
 
 -- ledgers in a list by number, as a map of those that there are

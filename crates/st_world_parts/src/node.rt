@@ -1,7 +1,7 @@
 //! A hop with its open tickets and its answered Prepares.
 
 ghost use Rattle.std.specs.Prelude.{◌≡◌, ◌<◌, ℕ, [], ◌∷◌, OnErr, IfOk, None, Some, map, length, nat_eq, nat_lt, slice_index, if◌then◌else◌};
-ghost use Rattle.indexmap.specs.IndexMap.{get, spare};
+ghost use Rattle.std.specs.HashMap.{get, spare};
 ghost use Rattle.st_links.specs.Outcomes.{outcome_seen};
 ghost use Rattle.st_hop.specs.Seen.{way_seen as hop_way_seen};
 ghost use Rattle.st_hop.specs.Table.{is_table, new_hop, RefusesBadTable};
@@ -12,16 +12,16 @@ use crate::entry::{AnsweredAtHop, amount_in};
 use crate::lane::{Direction, SentAnswer, SentPrepare, mark_taken};
 use crate::side::Way;
 use crate::told::Told;
-use indexmap::IndexMap;
 use st_hop::{Account, HopError, HopState, OpenTicket, Route, Ticket, Verdict, settlements_book};
 use st_ilp::Moment;
 use st_links::Outcome;
 use std::alloc::{AllocError, Allocator};
+use std::collections::HashMap;
 use std::hash::{BuildHasherDefault, FoldHasher};
 use std::marker::Model;
 
 /// Tickets that wait for their answers, each under its number.
-type Tickets<A> = IndexMap<u64, OpenTicket, BuildHasherDefault<FoldHasher>, A>;
+type Tickets<A> = HashMap<u64, OpenTicket, BuildHasherDefault<FoldHasher>, A>;
 
 /// Keeps a ticket. There is room for it.
 fn keep_ticket<A: Allocator + Copy>(kept: &mut Tickets<A>, ticket: Ticket)
@@ -29,7 +29,8 @@ fn keep_ticket<A: Allocator + Copy>(kept: &mut Tickets<A>, ticket: Ticket)
     ensures { (n : ℕ) → get nat_eq kept.new n ≡ (if nat_eq ticket.number n then Some ticket else get nat_eq kept.old n) }
 {
     let number = ticket.read().number;
-    let _replaced = kept.insert(number, OpenTicket::new(ticket)).unwrap();
+    let put: Result<_, _> = kept.insert(number, OpenTicket::new(ticket));
+    let _replaced = put.unwrap();
 }
 
 /// Takes out the ticket of a number.
@@ -37,7 +38,7 @@ fn take_ticket<A: Allocator + Copy>(kept: &mut Tickets<A>, number: u64) -> Optio
     ensures found { result ≡ get nat_eq kept.old number }
     ensures rest { (n : ℕ) → get nat_eq kept.new n ≡ (if nat_eq number n then None else get nat_eq kept.old n) }
 {
-    Some(kept.swap_remove(&number)?.spend())
+    Some(kept.remove(&number)?.spend())
 }
 
 /// A hop (RFC 0027), its open tickets, and the Prepares that it answered. A ticket represents a Prepare that was

@@ -6,7 +6,7 @@ use Rattle.st_world_parts.proofs.node.arrive_at.Goals as goal
 
 pub invariant_of-node-in-Ok-Forward : goal.invariant_of-node-in-Ok-Forward
 invariant_of-node-in-Ok-Forward g c =
-    let still = kept_still c.node.inside.state.tickets c.node.inside.kept c.reserve.new.self c.in_ok-reserve.ensures.entries c.node.invariant.0 in
+    let still = kept_still c.node.inside.state.tickets c.node.inside.kept c.reserve.new.self c.in_ok-reserve.ensures.entries.2 c.node.invariant.0 in
     let goes : arrived c.node.inside.state c.account-2.result c.args.bytes.now c.args.now ≡ (Forwards c.in-Ok-Forward.ticket c.in-Ok-Forward.field-0-1 c.in-Ok-Forward.bytes.items, c.arrive.new.self) =
     rw c.in-Ok-Forward.field-0-is at c.in-Ok-Forward.ensures.arrived in
     kept_more c.node.inside.state c.arrive.new.self c.in-Ok-Forward.ticket c.account-2.result c.in-Ok-Forward.field-0-1 c.args.bytes.now c.in-Ok-Forward.bytes.items c.args.now c.reserve.new.self c.keep_ticket.new.kept

@@ -1,6 +1,6 @@
 use Rattle.std.proofs.Common.{◌≡◌, arith, sym, ◌∙◌, Some, None, nat_eq}
 use Rattle.std.proofs.lemmas.Grind.{common_steps}
-use Rattle.indexmap.specs.IndexMap.{get}
+use Rattle.std.specs.HashMap.{get}
 use Rattle.st_links.specs.Outcomes.{outcome_seen}
 use Rattle.st_world_parts.proofs.Spent.{found_among, kept_all, kept_less}
 use Rattle.st_world_parts.proofs.node.settle_at.Goals as goal
