@@ -4,7 +4,7 @@
 The prover is called by itself, since `rt` works on one crate at a time if two have a crate below them in common. It writes
 a library, into crates/NAME/out/built, and the program of crates that are proved alone. Each crate is proved once those below it
 are. Of those that can begin, the one with the longest chain of crates above it begins first. A crate gets further jobs while
-processors are idle, up to four. With more than four processors it gets up to three, and a crate on the longest chain of all always
+processors are idle, up to four, but the program, which has three functions, gets one. With more than four processors it gets up to three, and a crate on the longest chain of all always
 has two. JOBS=N uses N processors. A crate that is not proved ends the build with its log. The program is for processors of this one's
 level; LEVEL=v2 and LEVEL=v3 ask for x86-64-v2 and x86-64-v3. `tools/build.py --plan N` prints what the weights below give for N
 processors."""
@@ -120,13 +120,13 @@ def memory():
         return next(1024 * int(line.split()[1]) for line in lines if line.startswith("MemAvailable:"))
 
 
-def scratch_folder(count):
-    """The folder for temporary files: one in memory if it has room for so many processors, and otherwise the usual one. TMPDIR says
+def scratch_folder(number):
+    """The folder for temporary files: one in memory if it has room for this number of processors, and otherwise the usual one. TMPDIR says
     another one."""
     if "TMPDIR" in os.environ:
         return None
     try:
-        has_room = os.access(IN_MEMORY, os.W_OK) and shutil.disk_usage(IN_MEMORY).free >= count * SCRATCH
+        has_room = os.access(IN_MEMORY, os.W_OK) and shutil.disk_usage(IN_MEMORY).free >= number * SCRATCH
     except OSError:
         has_room = False
     return IN_MEMORY if has_room else None
@@ -164,7 +164,7 @@ class Schedule:
         idle = self.processors - sum(self.running.values())
         is_few = self.processors <= FEW
         least = 2 if self.is_urgent(ready[0]) and not is_few else 1
-        most = MOST_OF_FEW if is_few else MOST_JOBS
+        most = 1 if ready[0] == PROGRAM else MOST_OF_FEW if is_few else MOST_JOBS
         jobs = max(idle // len(ready), least)
         self.running[ready[0]] = max(min(jobs, most, 1 + max(left - CHECK, 0) // JOB), 1)
         return ready[0], self.running[ready[0]]

@@ -9,8 +9,8 @@ use st_hop_books::{Books, BooksError};
 use std::alloc::AllocError;
 
 /// What opens the books of a file. A program is generic over it, as it is over the runtime that gives files and sockets.
-/// It is implemented where the type of the store is chosen: an interface that names an SQLite store in files has some
-/// 300 further definitions in it, and so has each crate above.
+/// It is implemented by a crate that chooses the type of the store: an interface that names an SQLite store in files has
+/// some 300 definitions more, and so have those of the crates above.
 pub trait OpensBooks {
     /// What the books are kept in.
     type Store: Alter + Send + Drop;

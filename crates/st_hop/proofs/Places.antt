@@ -18,7 +18,7 @@ module _ {X : Type 0} (prefix : List ℕ) where
   abbrev pub is_prefix : String X → Bool
   is_prefix k = bytes_eq prefix (string_bytes k)
 
-  -- w is the first that has the prefix, and stands at j, if they are counted from k on
+  -- w is the first that has the prefix, and its place is j, if they are counted from k on
   abbrev StandsAt : ℕ → List (String X × NextHop) → ℕ → String X × NextHop → Type 0
   StandsAt k ways j w = (position_from has k ways ≡ Some (k + j)) × (j < length ways) × (lookup is_prefix ways ≡ Some w.1) × ((d : String X × NextHop) → get_or ways j d ≡ w)
 

@@ -1,6 +1,6 @@
 //! A hop with its open tickets and its answered Prepares.
 
-ghost use Rattle.std.specs.Prelude.{◌≡◌, ◌<◌, ℕ, [], ◌∷◌, OnErr, IfOk, None, Some, map, length, nat_eq, nat_lt, slice_index, if◌then◌else◌};
+ghost use Rattle.std.specs.Prelude.{◌≡◌, ◌<◌, ℕ, [], ◌∷◌, OnOk, OnErr, IfOk, None, Some, map, length, nat_eq, nat_lt, slice_index, vec_len, vec_capacity, if◌then◌else◌};
 ghost use Rattle.std.specs.HashMap.{get, spare};
 ghost use Rattle.st_links.specs.Outcomes.{outcome_seen};
 ghost use Rattle.st_hop.specs.Seen.{way_seen as hop_way_seen};
@@ -133,6 +133,28 @@ impl<A: Allocator + Copy> Node<A> {
     }
 }
 
+/// Makes room for one more of each that an arrival adds. What there is stays, whatever the result.
+fn make_room<A: Allocator + Copy>(
+    kept: &mut Tickets<A>,
+    answered: &mut Vec<AnsweredAtHop, A>,
+    prepares: &mut Vec<SentPrepare<A>, A>,
+    given: &mut Vec<SentAnswer<A>, A>,
+) -> Result<(), AllocError>
+    ensures same_kept { (n : ℕ) → get nat_eq kept.new n ≡ get nat_eq kept.old n }
+    ensures same_answered { answered.new.items ≡ answered.old.items }
+    ensures same_prepares { prepares.new.items ≡ prepares.old.items }
+    ensures same_given { given.new.items ≡ given.old.items }
+    ensures has_tickets { OnOk result (0 < spare kept.new) }
+    ensures has_answered { OnOk result (vec_len answered.new < vec_capacity answered.new) }
+    ensures has_prepares { OnOk result (vec_len prepares.new < vec_capacity prepares.new) }
+    ensures has_given { OnOk result (vec_len given.new < vec_capacity given.new) }
+{
+    kept.reserve(1)?;
+    answered.reserve(1)?;
+    prepares.reserve(1)?;
+    given.reserve(1)
+}
+
 /// A Prepare arrives at a hop, at the moment `now`. The hop forwards it on the lane `next`, or answers it on the lane
 /// `back`, from which it arrived as the Prepare number `which`. If the call runs out of memory, the answer is a Reject
 /// T00 and the result `Told::NoMemory`. Fails if memory for the record is refused, and then nothing has changed.
@@ -150,10 +172,12 @@ pub fn arrive_at<A: Allocator + Copy>(
     ensures same_next { OnErr result (next.new ≡ next.old) }
     ensures same_back { OnErr result (back.new ≡ back.old) }
 {
-    node.kept.reserve(1)?;
-    node.answered.reserve(1)?;
-    next.prepares.reserve(1)?;
-    back.given.reserve(1)?;
+    make_room(
+        &mut node.kept,
+        &mut node.answered,
+        &mut next.prepares,
+        &mut back.given,
+    )?;
     let t00 = Vec::from_slice(node.alloc, node.state.t00())?;
     let amount = amount_in(bytes);
     let entry = AnsweredAtHop {
