@@ -3,11 +3,11 @@
 
 The prover is called by itself, since `rt` works on one crate at a time if two have a crate below them in common. It writes
 a library, into crates/NAME/out/built, and the program of crates that are proved alone. Each crate is proved once those below it
-are. Of those that can begin, the one with the longest chain of crates above it begins first. A crate gets further jobs while
-processors are idle, up to four, but the program, which has three functions, gets one. With more than four processors it gets up to three, and a crate on the longest chain of all always
-has two. JOBS=N uses N processors. A crate that is not proved ends the build with its log. The program is for processors of this one's
-level; LEVEL=v2 and LEVEL=v3 ask for x86-64-v2 and x86-64-v3. `tools/build.py --plan N` prints what the weights below give for N
-processors."""
+are. Of those that can begin, the one with the longest chain of crates above it begins first. With up to four processors a crate has
+one job, and up to four if it runs alone. With more it gets further jobs while processors are idle, up to three, and a crate on the
+longest chain of all always has two. The program, which has few functions, has one. JOBS=N uses N processors. A crate that is not
+proved ends the build with its log. The program is for processors of this one's level; LEVEL=v2 and LEVEL=v3 ask for x86-64-v2 and
+x86-64-v3. `tools/build.py --plan N` prints what the weights below give for N processors."""
 import os
 import shutil
 import signal
@@ -155,6 +155,14 @@ class Schedule:
         found = [it for it, below in self.crates.items() if it not in begun and self.proved.issuperset(below)]
         return sorted(found, key=lambda it: -self.longest[it])
 
+    def most_jobs(self, crate):
+        """How many jobs a crate can have. With few processors it has one while others run: with more it would take more of the
+        processor, and the crates above it would wait for the others all the same."""
+        is_few = self.processors <= FEW
+        if crate == PROGRAM or is_few and self.running:
+            return 1
+        return MOST_OF_FEW if is_few else MOST_JOBS
+
     def next(self):
         """The next crate that can begin, with its jobs, or None. One crate can always run."""
         ready = self.ready()
@@ -164,7 +172,7 @@ class Schedule:
         idle = self.processors - sum(self.running.values())
         is_few = self.processors <= FEW
         least = 2 if self.is_urgent(ready[0]) and not is_few else 1
-        most = 1 if ready[0] == PROGRAM else MOST_OF_FEW if is_few else MOST_JOBS
+        most = self.most_jobs(ready[0])
         jobs = max(idle // len(ready), least)
         self.running[ready[0]] = max(min(jobs, most, 1 + max(left - CHECK, 0) // JOB), 1)
         return ready[0], self.running[ready[0]]

@@ -36,4 +36,3 @@ pub use program::run;
 pub use receive::run_receive;
 pub use send::run_send;
 pub use streams::Streams;
-pub use system_books::SystemBooks;

@@ -146,7 +146,7 @@ pub fn start<
 }
 
 /// Runs the program `ilpstream` and returns its exit code. `host` gives the arguments and the standard streams of the
-/// process, and opens books (`SystemBooks`). `rt`, the same runtime, gives files, sockets, threads and the time. A read of standard input
+/// process, and opens books. `rt`, the same runtime, gives files, sockets, threads and the time. A read of standard input
 /// for which nothing arrives within 200 milliseconds is interrupted, and made again. Before anything else is opened, the
 /// number of each closed standard stream is reserved, so that no file that is opened later has it.
 pub fn ilpstream<

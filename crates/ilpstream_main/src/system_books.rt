@@ -9,13 +9,13 @@ use std::alloc::AllocError;
 
 /// Books in the files of the system, which the runtime of a process opens. What these hold, no clause can say.
 #[derive(Clone, Copy)]
-pub struct SystemBooks<'a> {
+pub(crate) struct SystemBooks<'a> {
     rt: &'a HostRuntime,
 }
 
 impl<'a> SystemBooks<'a> {
     /// The books that this runtime opens.
-    pub fn new(rt: &'a HostRuntime) -> SystemBooks<'a> {
+    pub(crate) fn new(rt: &'a HostRuntime) -> SystemBooks<'a> {
         SystemBooks { rt }
     }
 }
