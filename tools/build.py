@@ -19,7 +19,7 @@ import time
 from crates import BUILT, TOP, kit, read_crates, with_below, words
 
 PROGRAM = "ilpstream"
-# The processor's seconds that each crate took from nothing with one job, in the first run of docs/PERFORMANCE.md. Those of ilpstream_main,
+# The processor's seconds that each crate took from nothing with one job, in a first run of a39b886e on 2026-12-01. Those of ilpstream_main,
 # which was two crates, and of ilpstream are changed by what docs/GATE.md says of the type of the books. Crates that are not here take
 # OTHER.
 WEIGHTS = {
