@@ -6,18 +6,23 @@
 
 Clones each commit into a folder of its own and runs `./ilpstream frames < examples/frames.txt` there. For each it prints the time by
 the clock and of the processor, what of all processors the host took away meanwhile, and how many functions the crates below the
-program have. Let nothing else run. On four processors each commit takes some 45 minutes, and two at once some 90. Two that run at once
-have the same host, but half of its processors."""
+program have. Let nothing else run. On four processors each commit takes some 25 minutes, and two at once some 50. Two that run at once
+have the same host, but half of its processors. Of runs one after the other, the host's speed is measured before and after each: by the
+time in which each processor proves st_devices of this clone from nothing."""
 import glob
 import os
 import re
+import shutil
 import subprocess
 import sys
 import tempfile
 import time
 
 sys.path.insert(0, os.path.join(os.path.dirname(os.path.realpath(__file__)), "..", "tools"))
-from crates import TOP  # noqa: E402
+from crates import TOP, kit, read_crates, words  # noqa: E402
+
+# The crate whose proof shows how fast the host is: it has no other below it.
+SAMPLE = "st_devices"
 
 
 def stolen():
@@ -25,6 +30,26 @@ def stolen():
     with open("/proc/stat", encoding="ascii") as lines:
         ticks = [int(it) for it in next(lines).split()[1:9]]
     return ticks[7], sum(ticks)
+
+
+def host_speed(folder, processors):
+    """Prints the seconds by the clock in which each processor proves the sample from nothing, all at the same time."""
+    at, processes, began = kit(), [], time.monotonic()
+    for one in processors:
+        command = [f"{at}/bin/rattle", "build", *words(SAMPLE, read_crates(), at), "--statements", "-o", f"{folder}/sample-{one}.rlib"]
+        how = {"cwd": f"{TOP}/crates/{SAMPLE}", "stdin": subprocess.DEVNULL, "stdout": subprocess.DEVNULL, "stderr": subprocess.DEVNULL}
+        processes.append(subprocess.Popen(command, preexec_fn=lambda one=one: os.sched_setaffinity(0, {one}), **how))
+    took = []
+    while processes:
+        for it in [it for it in processes if it.poll() is not None]:
+            if it.returncode:
+                sys.exit(f"{SAMPLE} is not proved")
+            processes.remove(it)
+            took.append(time.monotonic() - began)
+        time.sleep(0.02)
+    for one in processors:
+        shutil.rmtree(f"{folder}/sample-{one}.rlib")
+    print(f"the host: {SAMPLE} proved on each processor in {' '.join(f'{it:.1f}' for it in took)} seconds", flush=True)
 
 
 def functions(top):
@@ -76,7 +101,10 @@ def main(arguments):
     if at_once:
         wait_for([Run(it, folder, {*processors[place * part:(place + 1) * part]}) for place, it in enumerate(commits)])
     for it in [] if at_once else commits:
+        host_speed(folder, processors)
         wait_for([Run(it, folder, {*processors})])
+    if not at_once:
+        host_speed(folder, processors)
 
 
 if __name__ == "__main__":

@@ -20,15 +20,15 @@ from crates import BUILT, TOP, kit, read_crates, with_below, words
 
 PROGRAM = "ilpstream"
 # The processor's seconds that each crate took from nothing with one job, in a first run of a39b886e on 2026-12-01. Those of ilpstream_main,
-# which was two crates, and of ilpstream are changed by what docs/GATE.md says of the type of the books. Crates that are not here take
-# OTHER.
+# which was two crates, and of ilpstream are changed by what docs/GATE.md says of the type of the books, and those of ilpstream_net and
+# ilpstream_main by 41 functions that moved from the one to the other. Crates that are not here take OTHER.
 WEIGHTS = {
-    "st_hop_books": 476, "ilpstream_ends": 356, "ilpstream_net": 325, "st_sender": 308, "st_hub": 273, "st_world": 260,
-    "ilpstream_words": 250, "st_end": 229, "ilpstream_main": 228, "ilpstream_settings": 200, "ilpstream_connector": 200, "ilpstream": 156,
-    "st_world_parts": 189, "st_receiver": 183, "ilpstream_frames": 164, "st_hop": 159, "ilpstream_log": 154, "ilpstream_serving": 142,
-    "st_http": 141, "ilpstream_local": 140, "st_hop_desk": 133, "st_aes": 126, "ilpstream_ledger": 126, "st_ilp": 98, "st_frames": 96,
-    "st_unacked": 88, "st_queues": 78, "st_reassembly": 66, "st_oer": 52, "st_file": 52, "st_lanes": 40, "ilpstream_output": 35,
-    "st_devices": 34, "st_keys": 29, "st_links": 28, "st_streams": 15,
+    "st_hop_books": 476, "ilpstream_net": 410, "ilpstream_ends": 356, "st_sender": 308, "st_hub": 273, "st_world": 260,
+    "ilpstream_words": 250, "st_end": 229, "ilpstream_settings": 200, "ilpstream_connector": 200, "st_world_parts": 189,
+    "st_receiver": 183, "ilpstream_frames": 164, "st_hop": 159, "ilpstream": 156, "ilpstream_log": 154, "ilpstream_main": 143,
+    "ilpstream_serving": 142, "st_http": 141, "ilpstream_local": 140, "st_hop_desk": 133, "st_aes": 126, "ilpstream_ledger": 126,
+    "st_ilp": 98, "st_frames": 96, "st_unacked": 88, "st_queues": 78, "st_reassembly": 66, "st_oer": 52, "st_file": 52, "st_lanes": 40,
+    "ilpstream_output": 35, "st_devices": 34, "st_keys": 29, "st_links": 28, "st_streams": 15,
 }
 OTHER = 80
 # Memory in bytes: what a check takes at most, and what each further job of it takes.

@@ -2,7 +2,7 @@
 use Rattle.std.specs.Prelude.{◌≡◌, ℕ, true, List, [], Option, Some, Result, Ok, Err, slice_get, ◌++◌, ◌∷◌, ℤ, Bool, MatchOption}
 use Rattle.std.specs.List.{remove}
 use Rattle.st_receiver.specs.Reading as reading
-use Rattle.st_end.specs.declared.error.EndError.{EndError}
+use Rattle.st_streams.specs.declared.end_error.EndError.{EndError}
 use Rattle.st_end.specs.declared.flight.Open.{Open}
 use Rattle.st_end.specs.State.{EndState}
 use Rattle.st_end.specs.Receiving as receiving

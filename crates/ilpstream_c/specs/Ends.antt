@@ -7,11 +7,11 @@ use Rattle.st_keys.specs.Keys.{keys_of}
 use Rattle.st_sender.specs.Sending.{Config}
 use Rattle.st_sender.specs.Configs.{IsConfig, config, with_least}
 use Rattle.st_receiver.specs.Reading as got
-use Rattle.st_end.specs.declared.error.EndError.{EndError}
+use Rattle.st_streams.specs.declared.end_error.EndError.{EndError}
 use Rattle.st_end.specs.declared.flight.Open.{Open}
 use Rattle.st_end.specs.declared.role.Role.{Role}
 use Rattle.st_end.specs.declared.role.Role.TheVariants.{Client, Server}
-use Rattle.st_end.specs.Errors.{number}
+use Rattle.st_streams.specs.Errors.{number}
 use Rattle.st_end.specs.State.{EndState, new_end}
 use Rattle.st_end.specs.Calls.{OrWants, has_stream}
 use Rattle.st_end.specs.Ready.{TellsRoom, is_ready}

@@ -12,15 +12,16 @@ use Rattle.st_end.specs.Calls.{OrWants}
 use Rattle.st_end.specs.Reading.{read}
 use Rattle.st_end.specs.Receiving.{Verdict, Unread, Rejects, Fulfills, after_verdict, verdict}
 use Rattle.st_end.specs.declared.opened.Opened.{Opened}
-use Rattle.st_end.specs.declared.error.EndError.{EndError}
-use Rattle.st_end.specs.declared.error.EndError.TheVariants as refusals
+use Rattle.st_streams.specs.declared.end_error.EndError.{EndError}
+use Rattle.st_streams.specs.declared.end_error.EndError.TheVariants as refusals
 use Rattle.st_http.specs.Message.{Standing}
 use Rattle.st_http.specs.Progress.{body_of}
 use Rattle.st_file.specs.Stores.{Flushes, WritesPiece}
 use Rattle.st_file.specs.declared.error.FileError.{FileError}
 use Rattle.st_file.specs.declared.error.FileError.TheVariants.{ReadFault, WriteFault, Aborted, Turns, NoMemory, Closed}
 use Rattle.st_file.proofs.Storing.{stored_more, stored_why}
-use Rattle.ilpstream_serving.specs.Answering.{Answers, IsWholeAt}
+use Rattle.ilpstream_serving.specs.Answering.{IsWholeAt}
+use Rattle.ilpstream_ends.specs.Answering.{Answers}
 use Rattle.ilpstream_ends.specs.Keeping.{Explains, Gives, Happens, comes, is_read, IsUpToDate, Kept, KeptAll, KeptTo, Reads, Runs, RunsIn, file_stream, piece_limit, given_of}
 use Rattle.ilpstream_ends.specs.Replies.{AnswersBody, AnswersFor, IsLater, IsOpenedFor}
 use Rattle.ilpstream_serving.specs.declared.error.TransferError.TheVariants as transfer

@@ -9,12 +9,12 @@ use Rattle.st_end.specs.Calls.{Answer}
 use Rattle.st_end.specs.Reading.{read}
 use Rattle.st_end.specs.Totals.{Totals, totals}
 use Rattle.st_end.specs.Receiving.{Received}
-use Rattle.st_end.specs.declared.error.EndError.TheVariants as refusals
+use Rattle.st_streams.specs.declared.end_error.EndError.TheVariants as refusals
 use Rattle.st_file.specs.Sources.{Given}
 use Rattle.st_file.specs.Stores.{Stored}
 use Rattle.st_file.specs.Errors as file
 use Rattle.st_file.specs.declared.error.FileError.TheVariants as file_error
-use Rattle.ilpstream_serving.specs.Answering.{Takes}
+use Rattle.ilpstream_ends.specs.Answering.{Takes}
 use Rattle.ilpstream_ends.specs.declared.delivery.Delivered.{Delivered}
 use Rattle.ilpstream_ends.specs.declared.delivery.Delivered.TheVariants.{More, Whole}
 use Rattle.ilpstream_serving.specs.declared.error.TransferError.{TransferError}

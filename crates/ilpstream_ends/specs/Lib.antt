@@ -1,3 +1,4 @@
+pub mod Answering
 pub mod Lobby
 pub mod Keeping
 pub mod Replies

@@ -3,8 +3,8 @@ use Rattle.std.specs.Prelude.{◌≡◌, ◌⊎◌, ℕ, Bool, true, false, List
 use Rattle.st_end.specs.State.{EndState}
 use Rattle.st_end.specs.Calls as calls
 use Rattle.st_end.specs.Totals.{Totals, totals, settled}
-use Rattle.st_end.specs.declared.error.EndError.{EndError}
-use Rattle.st_end.specs.declared.error.EndError.TheVariants as refusals
+use Rattle.st_streams.specs.declared.end_error.EndError.{EndError}
+use Rattle.st_streams.specs.declared.end_error.EndError.TheVariants as refusals
 use Rattle.st_hub.specs.declared.workers.WorkEnd.{WorkEnd}
 use Rattle.st_hub.specs.declared.workers.WorkEnd.TheVariants as ends
 use Rattle.st_file.specs.declared.error.FileError.{FileError}

@@ -8,7 +8,7 @@ use Rattle.st_end.specs.State.{EndState, new_end}
 use Rattle.st_end.specs.Opened.{IsOpenedBy}
 use Rattle.st_end.specs.declared.opened.Opened.{Opened}
 use Rattle.st_end.specs.declared.role.Role.TheVariants.{Server}
-use Rattle.ilpstream_serving.specs.Answering.{Answers}
+use Rattle.ilpstream_ends.specs.Answering.{Answers}
 use Rattle.ilpstream_ends.specs.Keeping.{Runs}
 
 -- the bytes that were opened, if there was memory

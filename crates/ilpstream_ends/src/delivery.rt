@@ -4,7 +4,7 @@ ghost use Rattle.std.specs.Prelude.{◌≡◌, ℕ, List, Option, true, OnOk, If
 ghost use Rattle.st_devices.specs.Tallies.{device_of, tally_of};
 ghost use Rattle.st_receiver.specs.Decided.{got_seen};
 ghost use Rattle.st_end.specs.State as state;
-ghost use Rattle.st_end.specs.declared.error.EndError.TheVariants as refusals;
+ghost use Rattle.st_streams.specs.declared.end_error.EndError.TheVariants as refusals;
 ghost use Rattle.ilpstream_ends.specs.Keeping.{Delivers, Gives, IsOfDelivery, Kept, faults_reported};
 
 use ilpstream_serving::TransferError;

@@ -5,7 +5,7 @@ ghost use Rattle.st_oer.specs.Address.{is_address};
 ghost use Rattle.st_keys.specs.Keys.{keys_of};
 ghost use Rattle.st_hub.specs.Hub.{IsNew};
 ghost use Rattle.st_end.specs.State as state;
-ghost use Rattle.st_end.specs.declared.error.EndError.TheVariants as refusals;
+ghost use Rattle.st_streams.specs.declared.end_error.EndError.TheVariants as refusals;
 ghost use Rattle.st_end.specs.declared.role.Role.TheVariants as roles;
 
 use st_end::{EndError, EndState, Role};

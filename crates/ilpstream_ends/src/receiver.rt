@@ -3,7 +3,7 @@
 ghost use Rattle.std.specs.Prelude.{ℕ, List};
 ghost use Rattle.st_http.specs.Serves.{bytes_of};
 ghost use Rattle.st_end.specs.Opened.{IsOpenedBy};
-ghost use Rattle.ilpstream_serving.specs.Answering.{Answers};
+ghost use Rattle.ilpstream_ends.specs.Answering.{Answers};
 ghost use Rattle.ilpstream_ends.specs.Replies.{AnswersFor, IsOpenedFor, bytes_opened};
 
 use ilpstream_serving::{Refusal, refusal_of};

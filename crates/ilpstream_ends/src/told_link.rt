@@ -1,7 +1,8 @@
 //! What a worker of `send` reports to the log: exchanges without a Fulfill, and what the end alone finds in an answer.
 
 ghost use Rattle.std.specs.Prelude.{◌≡◌};
-ghost use Rattle.ilpstream_serving.specs.Telling.{end_told, wait_told};
+ghost use Rattle.ilpstream_serving.specs.Telling.{wait_told};
+ghost use Rattle.ilpstream_ends.specs.Answering.{end_told};
 
 use ilpstream_log::{Blocked, Cause, Event};
 use ilpstream_serving::{HttpLink, Latest, Log, cause_in, cause_of, tell};

@@ -11,7 +11,7 @@ use Rattle.st_sender.specs.Sending.{Flight}
 use Rattle.st_end.specs.Calls.{Answer, close, write, abort, offer}
 use Rattle.st_end.specs.Reading as reading
 use Rattle.st_end.specs.Sending.{open_flight}
-use Rattle.st_end.specs.declared.error.EndError.{EndError}
+use Rattle.st_streams.specs.declared.end_error.EndError.{EndError}
 use Rattle.std.specs.Prelude.{MatchBool}
 use Rattle.st_world_parts.specs.Sides.{Side, Client, Server, Both, other}
 use Rattle.st_world_parts.specs.StreamLogs.{StreamLog, ledger_or, written, got}

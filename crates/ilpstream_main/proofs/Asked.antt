@@ -15,7 +15,7 @@ use Rattle.ilpstream_settings.specs.declared.settings.ReceiveSettings.{ReceiveSe
 use Rattle.ilpstream_words.specs.declared.request.Request.{Request}
 use Rattle.ilpstream_words.specs.declared.request.Request.TheVariants as request
 use Rattle.ilpstream_words.specs.Words.{AsksBy}
-use Rattle.ilpstream_main.specs.Credentials.{IsLawfulToken}
+use Rattle.ilpstream_net.specs.Credentials.{IsLawfulToken}
 use Rattle.ilpstream_main.specs.Settings.{IsChain, IsLawful, IsReceiver, IsSender}
 use Rattle.ilpstream_main.specs.Words.{AsksFor, AsksFrames}
 

@@ -3,5 +3,4 @@ pub mod Transfers
 pub mod WordsTaken
 pub mod Asked
 pub mod Tables
-pub mod Ledgers
 pub mod Locals

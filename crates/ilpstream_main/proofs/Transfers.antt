@@ -1,5 +1,5 @@
 -- From the result of a transfer, and that of writing its totals, to the end of its command.
-use Rattle.std.proofs.Common.{◌≡◌, ◌≢◌, ℕ, Bool, true, false, List, Option, Some, None, refl, sym, subst, ◌∙◌, inl, inr}
+use Rattle.std.proofs.Common.{◌≡◌, ℕ, Bool, true, false, List, Option, Some, None, refl, subst, inl, inr}
 use Rattle.std.specs.Prelude.{Result, Ok, Err, IsNone}
 use Rattle.std.specs.Borrow.{Bor}
 use Rattle.st_devices.specs.declared.counted.Counting.{Counting}
@@ -14,12 +14,11 @@ use Rattle.ilpstream_settings.specs.declared.settings.ReceiveSettings.{ReceiveSe
 use Rattle.ilpstream_settings.specs.declared.settings.SendSettings.{SendSettings}
 use Rattle.ilpstream_settings.specs.declared.source.Secret.{Secret}
 use Rattle.ilpstream_settings.specs.declared.source.Token.{Token}
-use Rattle.ilpstream_main.specs.Credentials.{AreOf, HasSecret, WhyNotOpened}
-use Rattle.ilpstream_main.specs.declared.credentials.Credentials.{Credentials}
-use Rattle.ilpstream_net.specs.Totals.{ended_with}
-use Rattle.ilpstream_main.specs.Transfers.{EndsAsked, EndsReceive, EndsSend, EndsTold, IsPatient, IsToldIn, ReceivesBy, ReceivesNothing, SendsBy, SendsNothing, TransfersIn, TransfersOut, receiver_end, receiver_result, sender_end, sender_result}
+use Rattle.ilpstream_net.specs.Credentials.{AreOf, HasSecret, WhyNotOpened}
+use Rattle.ilpstream_net.specs.declared.credentials.Credentials.{Credentials}
+use Rattle.ilpstream_net.specs.EndTotals.{EndsTold, IsToldIn}
+use Rattle.ilpstream_main.specs.Transfers.{EndsAsked, EndsReceive, EndsSend, IsPatient, ReceivesBy, ReceivesNothing, SendsBy, SendsNothing, TransfersIn, TransfersOut, receiver_end, receiver_result, sender_end, sender_result}
 use Rattle.ilpstream_net.specs.declared.error.RunError.{RunError}
-use Rattle.ilpstream_net.specs.declared.error.RunError.TheVariants as run
 
 module _ (s : SendSettings) (secret : List ℕ) where
   pub unsent : (now : Totals) (ended : Result (Unit {0}) RunError) → SendsNothing ended → TransfersOut s secret now now ended
@@ -45,15 +44,6 @@ module _ (s : ReceiveSettings) (secret : List ℕ) where
 untold_in : {W : Type 0} (contents : W → Option (List ℕ)) (old new : Option (Counting W)) (totals : Totals) (told : Result (Unit {0}) Fault) → IsNone old → IsToldIn contents old new totals told → told ≡ Ok tt
 untold_in contents None new totals told none is = is
 untold_in contents (Some f) new totals told none is = absurd (let clash : ◌≡◌ {A = Bool} true false = none in cc)
-
-not_bad : (ended : Result (Unit {0}) RunError) (told : Result (Unit {0}) Fault) → ended ≢ Err run.BadOption → ended_with ended told ≢ Err run.BadOption
-not_bad (Err e) told none wrong = none wrong
-not_bad (Ok x) (Ok y) none wrong = absurd (cc)
-not_bad (Ok x) (Err fault) none wrong = absurd (cc)
-
--- a command does not end as one with a bad option because its totals were written
-pub never_bad : (ended result : Result (Unit {0}) RunError) → ended ≢ Err run.BadOption → (told : Result (Unit {0}) Fault) × (result ≡ ended_with ended told) → result ≢ Err run.BadOption
-never_bad ended result none (told, is) wrong = not_bad ended told none (sym is ∙ wrong)
 
 -- a command that wrote its totals to the file that was asked for, ends as the settings ask
 pub asked : {W : Type 0} (contents : W → Option (List ℕ)) (file : Option (Bor (List ℕ))) (old new : Option (Counting W)) (totals : Totals) (ended result : Result (Unit {0}) RunError)

@@ -17,7 +17,7 @@ use Rattle.ilpstream_net.specs.declared.error.RunError.{RunError}
 use Rattle.ilpstream_net.specs.declared.error.RunError.TheVariants as run
 use Rattle.ilpstream_main.specs.declared.error.LocalError.{LocalError}
 use Rattle.ilpstream_net.specs.Errors.{number}
-use Rattle.ilpstream_main.specs.Ledger.{EndsLedger}
+use Rattle.ilpstream_net.specs.Ledger.{EndsLedger}
 use Rattle.ilpstream_main.specs.Local as ends
 use Rattle.ilpstream_main.specs.Local.{EndsLocal}
 use Rattle.ilpstream_output.specs.Explain.{Explains}

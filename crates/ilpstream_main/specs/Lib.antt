@@ -1,11 +1,7 @@
 pub mod Texts
 pub mod Words
-pub mod Credentials
 pub mod Settings
-pub mod Totals
-pub mod Progress
 pub mod Transfers
-pub mod Ledger
 pub mod Streams
 pub mod Local
 pub mod Endings

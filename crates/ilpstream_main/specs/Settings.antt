@@ -7,7 +7,7 @@ use Rattle.ilpstream_settings.specs.declared.settings.SendSettings.{SendSettings
 use Rattle.ilpstream_settings.specs.declared.settings.ReceiveSettings.{ReceiveSettings}
 use Rattle.ilpstream_words.specs.declared.request.Request.{Request}
 use Rattle.ilpstream_words.specs.declared.request.Request.TheVariants as request
-use Rattle.ilpstream_main.specs.Credentials.{IsLawfulToken}
+use Rattle.ilpstream_net.specs.Credentials.{IsLawfulToken}
 
 -- both ends have addresses; the host and a given token may be in a request
 pub record IsSender (s : SendSettings) : Type 0 where

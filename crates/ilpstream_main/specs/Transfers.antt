@@ -1,8 +1,6 @@
 -- What the commands `send` and `receive` are asked for: the end that each runs, the terms of its transfer, and how it ends.
-use Rattle.std.specs.Prelude.{◌≡◌, ◌⊎◌, ℕ, Bool, true, false, ◌&&◌, if◌then◌else◌, List, Option, Some, None, IsNone, IsSome, Result, Ok, Err, OnOk, string_bytes}
+use Rattle.std.specs.Prelude.{◌≡◌, ◌⊎◌, ℕ, Bool, true, false, ◌&&◌, if◌then◌else◌, List, Option, IsNone, IsSome, Result, Ok, Err, string_bytes}
 use Rattle.std.specs.Borrow.{Bor}
-use Rattle.std.specs.Io.KnownBytes.{Appends}
-use Rattle.st_devices.specs.Tallies.{device_of}
 use Rattle.st_devices.specs.declared.counted.Counting.{Counting}
 use Rattle.st_keys.specs.Keys.{keys_of}
 use Rattle.st_sender.specs.Configs.{config, with_least}
@@ -10,7 +8,7 @@ use Rattle.st_sender.specs.Sending.{Config}
 use Rattle.st_end.specs.Calls.{set_receive_max}
 use Rattle.st_end.specs.State.{EndState, new_end}
 use Rattle.st_end.specs.Totals.{Totals}
-use Rattle.st_end.specs.declared.error.EndError.TheVariants as refusals
+use Rattle.st_streams.specs.declared.end_error.EndError.TheVariants as refusals
 use Rattle.st_end.specs.declared.role.Role.TheVariants as roles
 use Rattle.ilpstream_ends.specs.Keeping.{TellsTotals, file_stream}
 use Rattle.ilpstream_ends.specs.Outcomes.{ComesTo, no_totals}
@@ -24,10 +22,10 @@ use Rattle.ilpstream_output.specs.declared.error.Fault.{Fault}
 use Rattle.ilpstream_output.specs.declared.error.Fault.TheVariants as fault
 use Rattle.ilpstream_settings.specs.declared.settings.ReceiveSettings.{ReceiveSettings}
 use Rattle.ilpstream_settings.specs.declared.settings.SendSettings.{SendSettings}
-use Rattle.ilpstream_main.specs.Credentials.{HasSecret, WhyNotOpened}
+use Rattle.ilpstream_net.specs.Credentials.{HasSecret, WhyNotOpened}
 use Rattle.ilpstream_net.specs.Totals.{ended_with}
-use Rattle.ilpstream_main.specs.Totals.{totals_text}
-use Rattle.ilpstream_main.specs.declared.credentials.Credentials.{Credentials}
+use Rattle.ilpstream_net.specs.EndTotals.{EndsTold}
+use Rattle.ilpstream_net.specs.declared.credentials.Credentials.{Credentials}
 use Rattle.ilpstream_net.specs.declared.error.RunError.{RunError}
 use Rattle.ilpstream_net.specs.declared.error.RunError.TheVariants as run
 
@@ -123,18 +121,6 @@ TransfersIn s secret before after old now ended =
     × IsPatient s.patience got × (ended ≡ receiver_result got stopped))
 
 -- ---- how the commands end
-
--- the totals were written to a file, if there is one: old before and new after
-abbrev pub IsToldIn : {W : Type 0} → (W → Option (List ℕ)) → (old new : Option (Counting W)) → Totals → Result (Unit {0}) Fault → Type 0
-IsToldIn contents None new totals told = told ≡ Ok tt
-IsToldIn contents (Some f) None totals told = ⊥
-IsToldIn contents (Some f) (Some g) totals told = OnOk told (Appends (contents (device_of f)) (contents (device_of g)) (totals_text totals))
-
--- a command ended, wrote its totals to its file, and then its end to its log
-abbrev pub EndsTold : {W : Type 0} → (W → Option (List ℕ)) → (old new : Option (Counting W)) → Totals → (ended result : Result (Unit {0}) RunError) → Type 0
-EndsTold contents old new totals ended result =
-    (told : Result (Unit {0}) Fault) × (logged : Result (Unit {0}) Fault)
-    × IsToldIn contents old new totals told × (result ≡ ended_with (ended_with ended told) logged)
 
 -- `send` with a secret and a file for its totals
 abbrev pub SendsBy : {W : Type 0} → (W → Option (List ℕ)) → SendSettings → (secret : List ℕ) → (old new : Option (Counting W))

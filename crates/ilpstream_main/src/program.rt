@@ -9,7 +9,6 @@ ghost use Rattle.ilpstream_main.specs.Endings.{Does, DoesUnless, LacksMemory, Te
 ghost use Rattle.ilpstream_main.specs.Streams as closed;
 ghost use Rattle.ilpstream_main.specs.Process.{Obeys};
 
-use crate::ledger::ledger;
 use crate::local::local;
 use crate::receive::run_receive;
 use crate::send::run_send;
@@ -19,7 +18,7 @@ use clap::Error;
 use clap::error::ErrorKind;
 use ilpstream_frames::run_frames;
 use ilpstream_ledger::OpensBooks;
-use ilpstream_net::run_connector;
+use ilpstream_net::{run_connector, run_ledger};
 use ilpstream_output::{Fault, TURNS, explain, put, say, tell_fault};
 use ilpstream_words::{Request, WordsError, broken_rule, read_words};
 use st_devices::{CountRead, CountWrite, Tally};
@@ -129,7 +128,7 @@ fn done<
             tell_end(alloc, errors, &obstacle, ended)
         }
         Request::Ledger(settings) => {
-            let ended = ledger(rt, opener, alloc, settings, writer);
+            let ended = run_ledger(rt, opener, alloc, settings, writer);
             tell_end(alloc, errors, &None, ended)
         }
         Request::Explain(number) => explain(*number, writer, errors),

@@ -2,22 +2,20 @@
 
 ghost use Rattle.std.specs.Prelude.{◌≡◌, ◌≢◌, Err, IfOk, IsNone, IsOkUnless, IsSome};
 ghost use Rattle.st_devices.specs.Tallies.{device_of};
-ghost use Rattle.st_end.specs.declared.error.EndError.TheVariants as refusals;
+ghost use Rattle.st_streams.specs.declared.end_error.EndError.TheVariants as refusals;
 ghost use Rattle.ilpstream_serving.specs.declared.error.TransferError.TheVariants as transfer;
-ghost use Rattle.ilpstream_main.specs.Credentials.{AreOf};
+ghost use Rattle.ilpstream_net.specs.Credentials.{AreOf};
 ghost use Rattle.ilpstream_main.specs.Settings.{IsReceiver};
 ghost use Rattle.ilpstream_main.specs.Transfers.{AreTermsIn, EndsReceive, ReceivesBy, TransfersIn, receiver_end, receiver_result};
 ghost use Rattle.ilpstream_net.specs.declared.error.RunError.TheVariants.{BadOption, NoListener, Transfer};
 
-use crate::credentials::Credentials;
-use crate::directed::Directed;
-use crate::ends::{Asked, Begun, begin, end};
-use crate::progress::{Side, Teller};
-use crate::send::widest;
-use crate::totals::nothing_yet;
+use crate::send::{nothing_yet, widest};
 use ilpstream_ends::{ReceivingEnd, receive_on, server_end};
 use ilpstream_log::Start;
-use ilpstream_net::{Control, Log, Obstacle, RunError, pipe_of, tell_listening, tell_run};
+use ilpstream_net::{
+    Begun, Control, Credentials, Directed, EndRequest, Log, Obstacle, RunError, Side, Teller,
+    begin_command, end_command, pipe_of, tell_listening, tell_run,
+};
 use ilpstream_output::TURNS;
 use ilpstream_serving::{ReceiveTerms, RuntimeClock, TransferError, Watch};
 use ilpstream_settings::ReceiveSettings;
@@ -156,11 +154,11 @@ fn result_of(ended: Result<u64, TransferError>, is_stopped: bool) -> Result<(), 
 }
 
 /// What was asked for, apart from the transfer.
-fn asked_of<'a>(settings: &ReceiveSettings<'a>) -> Asked<'a>
+fn asked_of<'a>(settings: &ReceiveSettings<'a>) -> EndRequest<'a>
     ensures credentials { (result.token ≡ settings.now.token) × (result.secret ≡ settings.now.secret) }
     ensures files { (result.totals ≡ settings.now.totals) × (result.log ≡ settings.now.log) }
 {
-    Asked {
+    EndRequest {
         token: settings.token,
         secret: settings.secret,
         totals: settings.totals,
@@ -236,7 +234,7 @@ fn receive_begun<
         &mut totals,
         obstacle,
     );
-    end(rt, alloc, begun, &totals, obstacle, ended)
+    end_command(rt, alloc, begun, &totals, obstacle, ended)
 }
 
 /// Receives from one sender and writes the bytes to the output, as the settings say. If a file of the token or the secret,
@@ -263,7 +261,7 @@ pub fn run_receive<
     ensures untouched { result ≡ Err BadOption → writer.new ≡ writer.old }
     ensures ends { EndsReceive settings.now (W.contents (device_of writer.old)) (W.contents (device_of writer.new)) result }
 {
-    let mut begun = match begin(rt, alloc, asked_of(settings), obstacle) {
+    let mut begun = match begin_command(rt, alloc, asked_of(settings), obstacle) {
         Ok(begun) => begun,
         Err(error) => return Err(error),
     };

@@ -2,22 +2,21 @@
 
 ghost use Rattle.std.specs.Prelude.{◌≡◌, ◌≢◌, ◌⊎◌, Err, IfErr, IfOk, IsOkUnless, IsSome};
 ghost use Rattle.st_hub.specs.Hub.{IsNew};
-ghost use Rattle.st_end.specs.declared.error.EndError.TheVariants as refusals;
+ghost use Rattle.st_streams.specs.declared.end_error.EndError.TheVariants as refusals;
 ghost use Rattle.ilpstream_ends.specs.Outcomes.{no_totals};
 ghost use Rattle.ilpstream_serving.specs.declared.error.TransferError.TheVariants as transfer;
 ghost use Rattle.ilpstream_output.specs.declared.error.Fault.TheVariants.{NoMemory};
-ghost use Rattle.ilpstream_main.specs.Credentials.{AreOf};
+ghost use Rattle.ilpstream_net.specs.Credentials.{AreOf};
 ghost use Rattle.ilpstream_main.specs.Settings.{IsSender};
 ghost use Rattle.ilpstream_main.specs.Transfers.{AreTermsOut, EndsSend, IsNeighbourOf, SendsBy, TransfersOut, sender_end, sender_result, widest as widest_config};
 ghost use Rattle.ilpstream_net.specs.declared.error.RunError.TheVariants.{BadOption, Fault as IsFault, NoRandom, Transfer};
 
-use crate::credentials::Credentials;
-use crate::ends::{Asked, Begun, begin, end};
-use crate::progress::{Side, Teller, input_length};
-use crate::totals::nothing_yet;
 use ilpstream_ends::{client_end, send_on};
 use ilpstream_log::Start;
-use ilpstream_net::{Log, Obstacle, RunError, Step, has_terminal};
+use ilpstream_net::{
+    Begun, Credentials, EndRequest, Log, Obstacle, RunError, Side, Step, Teller, begin_command,
+    end_command, has_terminal, input_length,
+};
 use ilpstream_output::{Fault, TURNS};
 use ilpstream_serving::{Neighbour, SendTerms, TransferError};
 use ilpstream_settings::SendSettings;
@@ -48,6 +47,18 @@ fn buffered<R: Read + Drop>(
     match BufReader::with_capacity(alloc, capacity, reader) {
         Ok(buffered) => Ok(buffered),
         Err(_) => Err(RunError::Fault(Fault::NoMemory)),
+    }
+}
+
+/// The totals of an end that has done nothing.
+pub(crate) fn nothing_yet() -> Totals
+    ensures { result ≡ no_totals }
+{
+    Totals {
+        accepted: 0,
+        delivered: 0,
+        credited: 0,
+        paid: 0,
     }
 }
 
@@ -192,11 +203,11 @@ fn transfer<
 }
 
 /// What was asked for, apart from the transfer.
-fn asked_of<'a>(settings: &SendSettings<'a>) -> Asked<'a>
+fn asked_of<'a>(settings: &SendSettings<'a>) -> EndRequest<'a>
     ensures credentials { (result.token ≡ settings.now.token) × (result.secret ≡ settings.now.secret) }
     ensures files { (result.totals ≡ settings.now.totals) × (result.log ≡ settings.now.log) }
 {
-    Asked {
+    EndRequest {
         token: settings.token,
         secret: settings.secret,
         totals: settings.totals,
@@ -248,7 +259,7 @@ fn send_begun<
         &mut totals,
         obstacle,
     );
-    end(rt, alloc, begun, &totals, obstacle, ended)
+    end_command(rt, alloc, begun, &totals, obstacle, ended)
 }
 
 /// Sends the input and the money to a receiver, as the settings say. If a file of the token or the secret, or one for
@@ -274,7 +285,7 @@ pub fn run_send<
     ensures untouched { result ≡ Err BadOption → reader.new ≡ reader.old }
     ensures ends { EndsSend settings.now result }
 {
-    match begin(rt, alloc, asked_of(settings), obstacle) {
+    match begin_command(rt, alloc, asked_of(settings), obstacle) {
         Ok(mut begun) => send_begun(rt, alloc, settings, &mut begun, reader, obstacle),
         Err(error) => Err(error),
     }

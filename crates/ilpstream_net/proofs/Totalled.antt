@@ -1,5 +1,5 @@
 -- The lines of accounts, and how a command ends that wrote its totals.
-use Rattle.std.proofs.Common.{◌≡◌, ℕ, suc, ◌+◌, ◌<◌, List, [], ◌∷◌, ◌++◌, length, take, get_or, Option, refl, sym, ap, subst, ◌∙◌, ◌⊎◌, append_assoc, arith, inl, inr}
+use Rattle.std.proofs.Common.{◌≡◌, ◌≢◌, ℕ, suc, ◌+◌, ◌<◌, List, [], ◌∷◌, ◌++◌, length, take, get_or, Option, refl, sym, ap, subst, ◌∙◌, ◌⊎◌, append_assoc, arith, inl, inr}
 use Rattle.std.specs.Prelude.{Result, Ok, Err, Some, None}
 use Rattle.std.specs.Io.KnownBytes.{Appends}
 use Rattle.std.specs.Borrow.{Bor}
@@ -80,3 +80,12 @@ pub replaced : (held empty file now : Option (List ℕ)) (text : List ℕ) → I
 replaced None empty file now text is grown takes = tt
 replaced (Some bytes) empty None now text is grown takes = absurd (rw is at grown)
 replaced (Some bytes) empty (Some written) now text is grown takes = takes ∙ ap Some (rw is at grown)
+
+not_bad : (ended : Result (Unit {0}) RunError) (told : Result (Unit {0}) Fault) → ended ≢ Err run.BadOption → ended_with ended told ≢ Err run.BadOption
+not_bad (Err e) told none wrong = none wrong
+not_bad (Ok x) (Ok y) none wrong = absurd (cc)
+not_bad (Ok x) (Err fault) none wrong = absurd (cc)
+
+-- a command does not end as one with a bad option because its totals were written
+pub never_bad : (ended result : Result (Unit {0}) RunError) → ended ≢ Err run.BadOption → (told : Result (Unit {0}) Fault) × (result ≡ ended_with ended told) → result ≢ Err run.BadOption
+never_bad ended result none (told, is) wrong = not_bad ended told none (sym is ∙ wrong)

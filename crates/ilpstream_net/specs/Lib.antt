@@ -6,3 +6,7 @@ pub mod Totals
 pub mod Obstacles
 pub mod Control
 pub mod Ways
+pub mod Credentials
+pub mod EndTotals
+pub mod Progress
+pub mod Ledger

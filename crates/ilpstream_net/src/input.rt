@@ -35,7 +35,10 @@ fn read_more<R: Read>(reader: &mut CountRead<R>, bytes: &mut Vec<u8>) -> Result<
 }
 
 /// The input to its end, by at most 2^31 - 1 reads.
-pub fn read_whole<R: Read>(alloc: Global, reader: &mut CountRead<R>) -> Result<Vec<u8>, Fault>
+pub(crate) fn read_whole<R: Read>(
+    alloc: Global,
+    reader: &mut CountRead<R>,
+) -> Result<Vec<u8>, Fault>
     ensures whole { IfOk result (λ bytes. IfSome (R.remaining (device_of reader.old)) (λ all. bytes.items ≡ all)) }
     ensures faults { (tally_of reader.new).faults ≡ reader_faults (fault_of result) (tally_of reader.old).faults }
     ensures why { IfErr result (λ e. FailsToRead e (tally_of reader.old) (tally_of reader.new)) }

@@ -14,6 +14,7 @@ use ilpstream_output::Fault;
 use ilpstream_serving::{LogFile, RuntimeClock, log_anew, log_in};
 use ilpstream_settings::{TableFault, WholeFault, table_fault, whole_fault};
 use st_ilp::Moment;
+use st_streams::EndTotals;
 use std::alloc::Global;
 use std::fs::{File, Files, OpenOptions};
 use std::io;
@@ -68,7 +69,7 @@ fn log_file<'a, N: Files<File = File>>(
 
 /// The log in the file of this name, if one was asked for. Its lines are appended to what the file has. Fails with
 /// `BadOption` if the file cannot be opened, and with a fault if memory is refused.
-pub fn journal<'a, N: Files<File = File>>(
+pub(crate) fn journal<'a, N: Files<File = File>>(
     rt: &N,
     alloc: Global,
     name: Option<&'a str>,
@@ -116,19 +117,19 @@ fn now(rt: &impl Clock) -> Moment {
 }
 
 /// Writes the line of an event of the command itself that happens now, if there is a log.
-pub fn tell<N: Clock>(rt: &N, log: Log<'_>, event: &Event<'_>) {
+pub(crate) fn tell<N: Clock>(rt: &N, log: Log<'_>, event: &Event<'_>) {
     if let Some(journal) = log {
         journal.note(rt, now(rt), 0, event);
     }
 }
 
 /// Writes the totals of an end, if there is a log.
-pub fn tell_end<N: Clock>(rt: &N, log: Log<'_>, totals: &st_end::Totals) {
+pub(crate) fn tell_end<N: Clock>(rt: &N, log: Log<'_>, totals: &EndTotals) {
     tell(rt, log, &Event::End(*totals));
 }
 
 /// Writes the totals of an end so far, and what was left out before, if there is a log.
-pub fn tell_minute<N: Clock>(rt: &N, log: Log<'_>, totals: &st_end::Totals) {
+pub(crate) fn tell_minute<N: Clock>(rt: &N, log: Log<'_>, totals: &EndTotals) {
     tell_end(rt, log, totals);
     if let Some(journal) = log {
         journal.catch_up(rt, now(rt));

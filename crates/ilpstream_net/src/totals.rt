@@ -154,7 +154,10 @@ fn replace_accounts<W: Write + Drop, P: Place<W>>(
 }
 
 /// The result of a command: its own error, or else that of writing its totals.
-pub fn ended_with(ended: Result<(), RunError>, told: Result<(), Fault>) -> Result<(), RunError>
+pub(crate) fn ended_with(
+    ended: Result<(), RunError>,
+    told: Result<(), Fault>,
+) -> Result<(), RunError>
     ensures { result ≡ spec.ended_with ended told }
 {
     ended?;

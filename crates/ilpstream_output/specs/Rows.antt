@@ -282,14 +282,6 @@ rows =
     } ∷
     record {
       number = 50;
-      home = codes "st_end";
-      variant = codes "EndError::NoStream";
-      places = [];
-      cause = codes "The stream is not open, or all stream numbers of this end are used: 32 each." ∷ [];
-      advice = codes "What to do: Use a number that `open_stream` returned or that the peer opened." ∷ [];
-    } ∷
-    record {
-      number = 50;
       home = codes "st_hub";
       variant = codes "HubError::NoStream";
       places = [];
@@ -305,12 +297,12 @@ rows =
       advice = codes "What to do: Use a number that `open_stream` returned or that the peer opened." ∷ [];
     } ∷
     record {
-      number = 51;
-      home = codes "st_end";
-      variant = codes "EndError::Closed";
+      number = 50;
+      home = codes "st_streams";
+      variant = codes "EndError::NoStream";
       places = [];
-      cause = codes "The stream was closed or aborted at this end, or the peer closed the connection." ∷ [];
-      advice = codes "What to do: Write nothing more. What was received can still be read." ∷ [];
+      cause = codes "The stream is not open, or all stream numbers of this end are used: 32 each." ∷ [];
+      advice = codes "What to do: Use a number that `open_stream` returned or that the peer opened." ∷ [];
     } ∷
     record {
       number = 51;
@@ -321,14 +313,12 @@ rows =
       advice = codes "What to do: Write nothing more." ∷ [];
     } ∷
     record {
-      number = 52;
-      home = codes "st_end";
-      variant = codes "EndError::Full";
+      number = 51;
+      home = codes "st_streams";
+      variant = codes "EndError::Closed";
       places = [];
-      cause = codes "More than 262,144 bytes of the stream would wait for an acknowledgement, or all streams together" ∷
-          codes "would have accepted 2^63 bytes." ∷
-          [];
-      advice = codes "What to do: Write again once the peer acknowledged some, or write less." ∷ [];
+      cause = codes "The stream was closed or aborted at this end, or the peer closed the connection." ∷ [];
+      advice = codes "What to do: Write nothing more. What was received can still be read." ∷ [];
     } ∷
     record {
       number = 52;
@@ -341,12 +331,14 @@ rows =
       advice = codes "What to do: Write again once the peer acknowledged some, or write less." ∷ [];
     } ∷
     record {
-      number = 53;
-      home = codes "st_end";
-      variant = codes "EndError::AmountTooLarge";
+      number = 52;
+      home = codes "st_streams";
+      variant = codes "EndError::Full";
       places = [];
-      cause = codes "All offers together would be 2^63 units or more." ∷ [];
-      advice = codes "What to do: Offer less." ∷ [];
+      cause = codes "More than 262,144 bytes of the stream would wait for an acknowledgement, or all streams together" ∷
+          codes "would have accepted 2^63 bytes." ∷
+          [];
+      advice = codes "What to do: Write again once the peer acknowledged some, or write less." ∷ [];
     } ∷
     record {
       number = 53;
@@ -357,16 +349,12 @@ rows =
       advice = codes "What to do: Offer less." ∷ [];
     } ∷
     record {
-      number = 54;
-      home = codes "st_end";
-      variant = codes "EndError::NoMemory";
-      places = codes "send" ∷
-          codes "receive" ∷
-          [];
-      cause = codes "Out of memory in an end of a connection. The end is as before the call." ∷ [];
-      advice = codes "What to do: Program: give the process more memory and begin again. Call: free memory and repeat" ∷
-          codes "it; a Prepare is answered with the Reject that `t00` lends." ∷
-          [];
+      number = 53;
+      home = codes "st_streams";
+      variant = codes "EndError::AmountTooLarge";
+      places = [];
+      cause = codes "All offers together would be 2^63 units or more." ∷ [];
+      advice = codes "What to do: Offer less." ∷ [];
     } ∷
     record {
       number = 54;
@@ -375,6 +363,18 @@ rows =
       places = [];
       cause = codes "Out of memory in the sending side. It is as before the call." ∷ [];
       advice = codes "What to do: Free memory and repeat the call." ∷ [];
+    } ∷
+    record {
+      number = 54;
+      home = codes "st_streams";
+      variant = codes "EndError::NoMemory";
+      places = codes "send" ∷
+          codes "receive" ∷
+          [];
+      cause = codes "Out of memory in an end of a connection. The end is as before the call." ∷ [];
+      advice = codes "What to do: Program: give the process more memory and begin again. Call: free memory and repeat" ∷
+          codes "it; a Prepare is answered with the Reject that `t00` lends." ∷
+          [];
     } ∷
     record {
       number = 58;
@@ -402,7 +402,7 @@ rows =
     } ∷
     record {
       number = 58;
-      home = codes "st_end";
+      home = codes "st_streams";
       variant = codes "EndError::ConnectionFailed";
       places = [];
       cause = codes "The connection failed: 200 Prepares in a row without a Fulfill, or a final Reject code." ∷ [];

@@ -195,47 +195,47 @@ const FAULT_42: &str = "42  st_reassembly InboxError::NoMemory, in a line of fra
 ";
 
 const FAULT_50: &str = "Numbers of the library:
-50  st_end EndError::NoStream
-    The stream is not open, or all stream numbers of this end are used: 32 each.
-    What to do: Use a number that `open_stream` returned or that the peer opened.
 50  st_hub HubError::NoStream
     The stream is not open.
     What to do: Use a number that `open_stream` returned or that the peer opened.
 50  st_sender OutboxError::NoStream
     The stream is not open.
     What to do: Use a number that `open_stream` returned or that the peer opened.
+50  st_streams EndError::NoStream
+    The stream is not open, or all stream numbers of this end are used: 32 each.
+    What to do: Use a number that `open_stream` returned or that the peer opened.
 ";
 
 const FAULT_51: &str = "Numbers of the library:
-51  st_end EndError::Closed
-    The stream was closed or aborted at this end, or the peer closed the connection.
-    What to do: Write nothing more. What was received can still be read.
 51  st_sender OutboxError::Closed
     The stream was closed or aborted at this end.
     What to do: Write nothing more.
+51  st_streams EndError::Closed
+    The stream was closed or aborted at this end, or the peer closed the connection.
+    What to do: Write nothing more. What was received can still be read.
 ";
 
 const FAULT_52: &str = "Numbers of the library:
-52  st_end EndError::Full
-    More than 262,144 bytes of the stream would wait for an acknowledgement, or all streams together
-    would have accepted 2^63 bytes.
-    What to do: Write again once the peer acknowledged some, or write less.
 52  st_sender OutboxError::Full
     In the sending side: more than 262,144 bytes of the stream would wait for an acknowledgement, or
     all streams together would have accepted 2^63 bytes.
     What to do: Write again once the peer acknowledged some, or write less.
+52  st_streams EndError::Full
+    More than 262,144 bytes of the stream would wait for an acknowledgement, or all streams together
+    would have accepted 2^63 bytes.
+    What to do: Write again once the peer acknowledged some, or write less.
 ";
 
 const FAULT_53: &str = "Numbers of the library:
-53  st_end EndError::AmountTooLarge
-    All offers together would be 2^63 units or more.
-    What to do: Offer less.
 53  st_sender OutboxError::AmountTooLarge
     In the sending side: all offers together would be 2^63 units or more.
     What to do: Offer less.
+53  st_streams EndError::AmountTooLarge
+    All offers together would be 2^63 units or more.
+    What to do: Offer less.
 ";
 
-const FAULT_54: &str = "54  st_end EndError::NoMemory, in send, receive
+const FAULT_54: &str = "54  st_streams EndError::NoMemory, in send, receive
     Out of memory in an end of a connection. The end is as before the call.
     What to do: Program: give the process more memory and begin again. Call: free memory and repeat
     it; a Prepare is answered with the Reject that `t00` lends.
@@ -258,7 +258,7 @@ const FAULT_58: &str = "58  ilpstream_local LocalFault::Failed, in local
     What to do: Look at `--to` and the tokens, then at the table's routes, then at LIMIT, rates and
     clocks. Then begin again with a new secret.
 Numbers of the library:
-58  st_end EndError::ConnectionFailed
+58  st_streams EndError::ConnectionFailed
     The connection failed: 200 Prepares in a row without a Fulfill, or a final Reject code.
     What to do: Open a new connection with a new secret.
 ";

@@ -1,7 +1,7 @@
 -- The numbers by which a program reports why a transfer ended short.
 use Rattle.std.specs.Prelude.{ℕ, Option, None}
 use Rattle.st_hop_desk.specs.Errors as desk
-use Rattle.st_end.specs.Errors as end
+use Rattle.st_streams.specs.Errors as end
 use Rattle.st_file.specs.Errors as file
 use Rattle.ilpstream_serving.specs.declared.error.TransferError.{TransferError}
 use Rattle.ilpstream_serving.specs.declared.error.TransferError.TheVariants.{Failed, Stalled, Rings, Accept, Turns, Silent, IvFault, NoMemory, End, Desk, File, Books}

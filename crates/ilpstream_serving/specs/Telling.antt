@@ -1,13 +1,11 @@
 -- What is reported to the log.
-use Rattle.std.specs.Prelude.{ℕ, Bool, true, false, ◌==◌, bytes_eq, if◌then◌else◌, Option, Some, None}
+use Rattle.std.specs.Prelude.{ℕ, Bool, true, false, ◌==◌, if◌then◌else◌, Option, Some, None}
 use Rattle.st_http.specs.Errors.{number}
 use Rattle.ilpstream_serving.specs.Links.{status_of}
 use Rattle.ilpstream_serving.specs.declared.cause.LinkCause.{LinkCause}
 use Rattle.ilpstream_serving.specs.declared.cause.LinkCause.TheVariants as link
 use Rattle.ilpstream_serving.specs.declared.cause.Unreached as links
 use Rattle.ilpstream_serving.specs.declared.cause.Unreached.TheVariants as from
-use Rattle.st_sender.specs.Answering.{f08}
-use Rattle.st_end.specs.Failed.{Failed, Lost as NoneCame, Unreadable, Unfit, Rejected}
 use Rattle.ilpstream_log.specs.declared.event.Event.{Event}
 use Rattle.ilpstream_log.specs.declared.event.Event.TheVariants as event
 use Rattle.st_streams.specs.declared.blocked.Blocked.{Blocked}
@@ -39,13 +37,6 @@ cause_told (Some (link.Http e)) = cause.Link (number e) (status_of (link.Http e)
 abbrev pub lost_told : Option ℕ → Option Lost
 lost_told None = Some lost.Cut
 lost_told (Some status) = if status == 200 then None else Some (lost.Status status)
-
--- what an end alone finds in the answer to a Prepare that failed: a Fulfill that does not fit, and a new packet limit
-abbrev pub end_told : Failed → (limit : ℕ) → Option Event
-end_told NoneCame limit = None
-end_told Unreadable limit = None
-end_told Unfit limit = Some (event.Exchange cause.Unfit)
-end_told (Rejected code by message) limit = if bytes_eq code f08 then Some (event.Limit limit) else None
 
 -- the limit of the peer at which an end waits
 abbrev pub wait_told : Blocked → Event

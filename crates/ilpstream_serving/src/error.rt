@@ -4,9 +4,9 @@ ghost use Rattle.std.specs.Prelude.{◌≡◌};
 ghost use Rattle.ilpstream_serving.specs.Errors as errors;
 ghost use Rattle.ilpstream_serving.specs.declared.error.TransferError.TheVariants.{File, NoMemory};
 
-use st_end::EndError;
 use st_file::FileError;
 use st_hop_desk::DeskError;
+use st_streams::EndError;
 use std::alloc::{AllocError, AllocFailed};
 use thiserror::Error;
 

@@ -4,7 +4,7 @@ ghost use Rattle.std.specs.Prelude.{◌≡◌};
 ghost use Rattle.ilpstream_serving.specs.Telling as spec;
 
 use ilpstream_log::{Blocked, Brief};
-use st_end::Totals;
+use st_streams::EndTotals;
 use std::sync::Mutex;
 use std::time::Duration;
 
@@ -17,7 +17,7 @@ pub trait Watch {
     /// What the totals of the end are, at which limit of its peer it waits, and why the last exchange that failed did: it
     /// brought a sender no Fulfill, or a receiver refused it. No lock is kept meanwhile. It is called each period for a sender, and
     /// for a receiver as often as it was called or a period is over.
-    fn look(&mut self, totals: &Totals, waits: Option<Blocked>, last: Option<Brief>);
+    fn look(&mut self, totals: &EndTotals, waits: Option<Blocked>, last: Option<Brief>);
 
     /// Whether a receiver is to accept no further connection, and to end once those that it has are done.
     fn is_stopped(&self) -> bool {
@@ -37,7 +37,7 @@ impl Watch for NoWatch {
         None
     }
 
-    fn look(&mut self, _: &Totals, _: Option<Blocked>, _: Option<Brief>) {}
+    fn look(&mut self, _: &EndTotals, _: Option<Blocked>, _: Option<Brief>) {}
 
     fn end(&mut self) {}
 }
@@ -46,7 +46,7 @@ impl Watch for NoWatch {
 #[derive(Drop)]
 pub struct Idle<'a, V> {
     pub watch: &'a mut V,
-    pub totals: Totals,
+    pub totals: EndTotals,
     pub last: Option<Brief>,
 }
 

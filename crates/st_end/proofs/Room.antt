@@ -7,9 +7,9 @@ use Rattle.st_sender.specs.declared.error.OutboxError.TheVariants as outbox
 use Rattle.st_sender.specs.Sending.{Outgoing, outgoing_at}
 use Rattle.st_sender.specs.Refusals.{write_refusal, all_accepted}
 use Rattle.st_sender.specs.Room as sender
-use Rattle.st_end.specs.declared.error.EndError.{EndError}
-use Rattle.st_end.specs.declared.error.EndError.TheVariants.{Full}
-use Rattle.st_end.specs.Errors.{wrapped}
+use Rattle.st_streams.specs.declared.end_error.EndError.{EndError}
+use Rattle.st_streams.specs.declared.end_error.EndError.TheVariants.{Full}
+use Rattle.st_sender.specs.Errors.{wrapped}
 use Rattle.st_end.specs.State.{EndState}
 use Rattle.st_end.specs.Calls.{answer, refusal, refusal_at, connection_refusal, wrapped_too}
 use Rattle.st_end.specs.Ready.{IsRoom}

@@ -12,9 +12,9 @@ use Rattle.st_sender.specs.Sending.{Outgoing, Sending, new_outgoing, outgoing_at
 use Rattle.st_sender.specs.Accepting.{after_write, after_clean, after_stream_abort, after_offer}
 use Rattle.st_sender.specs.Refusals.{write_refusal, close_refusal, abort_refusal, offer_refusal}
 use Rattle.st_receiver.specs.Streams.{opened_stream, may_name, with_receive_max}
-use Rattle.st_end.specs.declared.error.EndError.{EndError}
-use Rattle.st_end.specs.declared.error.EndError.TheVariants.{NoStream, ConnectionFailed, Closed, NoMemory}
-use Rattle.st_end.specs.Errors.{wrapped}
+use Rattle.st_streams.specs.declared.end_error.EndError.{EndError}
+use Rattle.st_streams.specs.declared.end_error.EndError.TheVariants.{NoStream, ConnectionFailed, Closed, NoMemory}
+use Rattle.st_sender.specs.Errors.{wrapped}
 use Rattle.st_end.specs.State.{EndState}
 
 -- ---- refusals

@@ -1,7 +1,6 @@
 pub mod Failed
 pub mod Failures
 pub mod State
-pub mod Errors
 pub mod Calls
 pub mod Sending
 pub mod Unsealed

@@ -2,8 +2,8 @@
 use Rattle.std.specs.Prelude.{ℕ, if◌then◌else◌, Result, Ok, Err}
 use Rattle.st_receiver.specs.Streams.{incoming_at, is_open}
 use Rattle.st_receiver.specs.Reading.{Got, got, after_got}
-use Rattle.st_end.specs.declared.error.EndError.{EndError}
-use Rattle.st_end.specs.declared.error.EndError.TheVariants.{NoStream}
+use Rattle.st_streams.specs.declared.end_error.EndError.{EndError}
+use Rattle.st_streams.specs.declared.end_error.EndError.TheVariants.{NoStream}
 use Rattle.st_end.specs.State.{EndState}
 
 -- of at most `limit` bytes, at least one. A connection that failed or was closed can still be read

@@ -3,8 +3,8 @@ use Rattle.std.specs.Prelude.{◌≡◌, ℕ, ◌≤◌, Bool, nat_lt, if◌then
 use Rattle.std.specs.declared.option.Option.TheVariants.{None, Some}
 use Rattle.st_sender.specs.Refusals.{write_refusal}
 use Rattle.st_receiver.specs.Ready as receiver
-use Rattle.st_end.specs.declared.error.EndError.{EndError}
-use Rattle.st_end.specs.declared.error.EndError.TheVariants.{Full}
+use Rattle.st_streams.specs.declared.end_error.EndError.{EndError}
+use Rattle.st_streams.specs.declared.end_error.EndError.TheVariants.{Full}
 use Rattle.st_end.specs.State.{EndState}
 use Rattle.st_end.specs.Calls.{refusal}
 

@@ -3,7 +3,7 @@ use Rattle.std.specs.Prelude.{ℕ, List, String, string_bytes, Option, None, Som
 use Rattle.std.specs.Borrow.{Bor}
 use Rattle.st_receiver.specs.Decided.{got_seen}
 use Rattle.st_receiver.specs.Reading as reading
-use Rattle.st_end.specs.declared.error.EndError.{EndError}
+use Rattle.st_streams.specs.declared.end_error.EndError.{EndError}
 use Rattle.st_end.specs.declared.received.Received.{Received}
 use Rattle.st_streams.specs.declared.stream_read.StreamRead.{StreamRead}
 use Rattle.st_end.specs.Receiving as receiving

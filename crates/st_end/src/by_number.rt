@@ -12,8 +12,7 @@ ghost use Rattle.st_end.specs.Seen.{read_seen};
 ghost use Rattle.st_end.specs.Totals as totals;
 
 use crate::end::EndState;
-use crate::error::EndError;
-use st_streams::StreamRead;
+use st_streams::{EndError, StreamRead};
 use std::alloc::Allocator;
 
 /// `EndState::write` by a number.

@@ -8,8 +8,7 @@ ghost use Rattle.st_end.specs.Calls.{IsNoStream, OrWants};
 ghost use Rattle.st_end.specs.Ready.{TellsRoom};
 
 use crate::end::EndState;
-use crate::error::EndError;
-use st_streams::StreamId;
+use st_streams::{EndError, StreamId};
 use std::alloc::Allocator;
 
 impl<A: Allocator + Copy> EndState<A> {

@@ -10,13 +10,13 @@ ghost use Rattle.st_end.specs.Reading as reading;
 ghost use Rattle.st_end.specs.Receiving.{t00_text};
 
 use crate::conditions::Conditions;
-use crate::error::EndError;
 use crate::failed::Failed;
 use crate::reply::ready_t00;
 use crate::role::Role;
 use st_keys::Keys;
 use st_receiver::Intake;
 use st_sender::{EndConfig, Outbox, OutboxError};
+use st_streams::EndError;
 use std::alloc::Allocator;
 use std::marker::Model;
 use std::sync::Arc;

@@ -20,7 +20,6 @@ ghost use Rattle.st_end.specs.Opened.{IsPayloadOf, IsOpenedBy};
 use crate::back::raise_all;
 use crate::effect::{last_address, take_effect};
 use crate::end::EndState;
-use crate::error::EndError;
 use crate::opened::{Opened, Payload, read_plain};
 use crate::received::Received;
 use crate::reply::{code_unopened, fulfill_bytes, reject_bytes, reply_payload};
@@ -30,6 +29,7 @@ use st_keys::Keys;
 use st_oer::is_within;
 use st_receiver::{Decision, Intake, Plan, Reason};
 use st_sender::Outbox;
+use st_streams::EndError;
 use std::alloc::Allocator;
 
 /// A Fulfill, with the frames of its reply and the peer's new address, if it has one.

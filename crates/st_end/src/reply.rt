@@ -15,10 +15,10 @@ ghost use Rattle.st_receiver.specs.Streams.{Receiving};
 ghost use Rattle.st_receiver.specs.Limits.{reply_frames};
 ghost use Rattle.st_end.specs.Receiving as receiving;
 
-use crate::error::EndError;
 use st_frames::{Frame, PacketKind, StreamPacket};
 use st_ilp::{Answer, ErrorCode, IlpError, Prepare, write_answer};
 use st_keys::{KeyError, Keys, payload_lengths};
+use st_streams::EndError;
 use std::alloc::Allocator;
 
 /// The code of a Reject of a payload that did not open.

@@ -12,9 +12,8 @@ ghost use Rattle.st_end.specs.Seen.{read_seen};
 ghost use Rattle.st_end.specs.Totals as totals;
 
 use crate::end::EndState;
-use crate::error::EndError;
 use st_sender::Blocked;
-use st_streams::{EndTotals, StreamId, StreamRead};
+use st_streams::{EndError, EndTotals, StreamId, StreamRead};
 use std::alloc::Allocator;
 
 /// A count as it is reported.

@@ -13,13 +13,13 @@ ghost use Rattle.st_end.specs.Sending.{Spells};
 ghost use Rattle.st_end.specs.Unsealed.{launched};
 ghost use Rattle.st_end.specs.Inside.{IsSpellable, IsPlain, front_of, middle_of};
 
-use crate::error::EndError;
 use crate::flight::{Flight, Open};
 use st_frames::{FrameError, PacketKind};
 use st_ilp::{IlpError, Moment, Prepare, write_prepare};
 use st_keys::{Keys, OVERHEAD, condition, plain_payload};
 use st_oer::length_size;
 use st_sender::Load;
+use st_streams::EndError;
 use std::alloc::Allocator;
 use std::marker::Model;
 use std::sync::Arc;

@@ -2,8 +2,8 @@
 use Rattle.std.proofs.Common.{◌≡◌, ◌≢◌, ℕ, ℤ, List, Option, None, Some, Result, Ok, Err, sym, ap, subst, ⊎_elim, true}
 use Rattle.std.specs.Prelude.{is_ok, IfOk, OnErr, MatchOption}
 use Rattle.st_end.specs.State.{EndState}
-use Rattle.st_end.specs.declared.error.EndError.{EndError}
-use Rattle.st_end.specs.declared.error.EndError.TheVariants as end_errors
+use Rattle.st_streams.specs.declared.end_error.EndError.{EndError}
+use Rattle.st_streams.specs.declared.end_error.EndError.TheVariants as end_errors
 use Rattle.st_end.specs.declared.received.Received.{Received}
 use Rattle.st_end.specs.Calls.{Answer, OrWants, open_stream, write}
 use Rattle.st_end.specs.Sending.{GoesNone}

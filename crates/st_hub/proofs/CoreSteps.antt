@@ -14,8 +14,8 @@ use Rattle.st_sender.specs.Refusals.{accepted_of}
 use Rattle.st_receiver.specs.Streams.{Incoming, incoming_at, incoming_or, fresh_incoming, is_open, delivered_of}
 use Rattle.st_receiver.specs.Reading as reading
 use Rattle.st_receiver.specs.Reading.{Got, got, got_by, got_bytes, got_none, is_read, after_bytes, after_got_by, after_get, after_got}
-use Rattle.st_end.specs.declared.error.EndError.{EndError}
-use Rattle.st_end.specs.declared.error.EndError.TheVariants as end_errors
+use Rattle.st_streams.specs.declared.end_error.EndError.{EndError}
+use Rattle.st_streams.specs.declared.end_error.EndError.TheVariants as end_errors
 use Rattle.st_end.specs.State.{EndState}
 use Rattle.st_end.specs.Calls.{write}
 use Rattle.st_end.specs.Reading.{read}

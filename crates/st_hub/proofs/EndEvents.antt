@@ -5,8 +5,8 @@ use Rattle.std.specs.List.{range_with_len}
 use Rattle.st_sender.specs.Sending.{Sending, Outgoing, Flight, outgoing_at, with_outgoing, changed_at, changed}
 use Rattle.st_sender.specs.Accepting.{after_write, after_clean, after_offer}
 use Rattle.st_receiver.specs.Streams.{incoming_at, may_name, with_receive_max}
-use Rattle.st_end.specs.declared.error.EndError.{EndError}
-use Rattle.st_end.specs.declared.error.EndError.TheVariants as end_errors
+use Rattle.st_streams.specs.declared.end_error.EndError.{EndError}
+use Rattle.st_streams.specs.declared.end_error.EndError.TheVariants as end_errors
 use Rattle.st_end.specs.declared.flight.Open as flights
 use Rattle.st_end.specs.State.{EndState}
 use Rattle.st_end.specs.Calls.{Answer, done, refusal_at, write, close, offer, set_receive_max, own_number, own_numbers, first_free, free_or, connection_refusal, with_stream, opened_unless, opening_as, open_stream}

@@ -28,8 +28,8 @@ use Rattle.st_receiver.specs.Judged.{fault_of, effect}
 use Rattle.st_receiver.specs.Reading.{Got, after_got}
 use Rattle.st_receiver.specs.Limits.{reply_frames}
 use Rattle.st_end.specs.State.{EndState}
-use Rattle.st_end.specs.declared.error.EndError.{EndError}
-use Rattle.st_end.specs.declared.error.EndError.TheVariants as end_errors
+use Rattle.st_streams.specs.declared.end_error.EndError.{EndError}
+use Rattle.st_streams.specs.declared.end_error.EndError.TheVariants as end_errors
 use Rattle.st_end.specs.declared.flight.Open as flights
 use Rattle.st_end.specs.declared.received.Received as answered
 use Rattle.st_end.specs.Calls.{Answer, done, write, close, offer, set_receive_max}

@@ -4,7 +4,7 @@ use Rattle.st_queues.specs.Writing.{Written}
 use Rattle.st_queues.specs.Reading.{Read}
 use Rattle.st_queues.specs.declared.items.Over.TheVariants.{Open}
 use Rattle.st_receiver.specs.Streams.{is_open}
-use Rattle.st_end.specs.declared.error.EndError.{EndError}
+use Rattle.st_streams.specs.declared.end_error.EndError.{EndError}
 use Rattle.st_end.specs.State.{EndState}
 use Rattle.st_end.specs.Calls.{has_stream}
 use Rattle.st_hub.specs.declared.error.HubError.{HubError}

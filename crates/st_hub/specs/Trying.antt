@@ -5,7 +5,7 @@ use Rattle.st_receiver.specs.Reading as reading
 use Rattle.st_queues.specs.declared.items.Item.{Item}
 use Rattle.st_queues.specs.declared.items.Item.TheVariants as item
 use Rattle.st_queues.specs.declared.items.Delivery.{Delivery}
-use Rattle.st_end.specs.declared.error.EndError.{EndError}
+use Rattle.st_streams.specs.declared.end_error.EndError.{EndError}
 use Rattle.st_end.specs.State.{EndState}
 use Rattle.st_end.specs.Calls.{write, close, has_stream}
 use Rattle.st_end.specs.Reading.{read}

@@ -4,6 +4,7 @@ ghost use Rattle.std.specs.Prelude.{◌≡◌};
 ghost use Rattle.st_sender.specs.Errors as errors;
 ghost use Rattle.st_sender.specs.declared.error.OutboxError.TheVariants.{NoMemory};
 
+use st_streams::EndError;
 use std::alloc::{AllocError, AllocFailed};
 use thiserror::Error;
 
@@ -62,5 +63,19 @@ impl<T: Drop> From<AllocFailed<T>> for OutboxError {
 
     fn from(_error: AllocFailed<T>) -> OutboxError {
         OutboxError::NoMemory
+    }
+}
+
+impl From<OutboxError> for EndError {
+    ghost from_gives = { λ fault e. e ≡ errors.wrapped fault };
+
+    fn from(fault: OutboxError) -> EndError {
+        match fault {
+            OutboxError::NoStream => EndError::NoStream,
+            OutboxError::Closed => EndError::Closed,
+            OutboxError::Full => EndError::Full,
+            OutboxError::AmountTooLarge => EndError::AmountTooLarge,
+            OutboxError::NoMemory => EndError::NoMemory,
+        }
     }
 }

@@ -6,8 +6,8 @@ use Rattle.st_sender.specs.Sending.{Outgoing, outgoing_at, with_outgoing, change
 use Rattle.st_sender.specs.Accepting.{after_write, after_clean, after_stream_abort, after_offer}
 use Rattle.st_receiver.specs.Streams.{Incoming, incoming_or, with_incoming}
 use Rattle.st_end.specs.State.{EndState}
-use Rattle.st_end.specs.declared.error.EndError.{EndError}
-use Rattle.st_end.specs.declared.error.EndError.TheVariants as whys
+use Rattle.st_streams.specs.declared.end_error.EndError.{EndError}
+use Rattle.st_streams.specs.declared.end_error.EndError.TheVariants as whys
 use Rattle.st_sender.specs.declared.error.OutboxError.{OutboxError}
 use Rattle.st_sender.specs.Refusals.{is_closed, no_more, full, too_much, all_accepted, all_offered, is_aborted}
 use Rattle.st_end.specs.Calls.{wrapped_too, refusal_at, done, connection_refusal}

@@ -8,7 +8,7 @@ use Rattle.st_receiver.specs.Streams.{Receiving, is_open}
 use Rattle.st_end.specs.Receiving.{opened_at, opened_too, tells_blocked, marked_if, marked, all_marked}
 use Rattle.st_end.specs.State.{EndState}
 use Rattle.st_end.specs.Calls.{with_stream, opened_unless}
-use Rattle.st_end.specs.declared.error.EndError.{EndError}
+use Rattle.st_streams.specs.declared.end_error.EndError.{EndError}
 
 fold_keeps : {A B : Type 0} (P : B → Type 0) (f : B → A → B) → ((b : B) (x : A) → P b → P (f b x)) → (xs : List A) (b : B) → P b → P (fold f b xs)
 fold_keeps P f step [] b h = h

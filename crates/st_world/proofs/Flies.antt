@@ -12,9 +12,9 @@ use Rattle.st_sender.specs.Flights.{without_flight}
 use Rattle.st_sender.specs.Answering.{after_acked, after_all_acked, landed, after_fulfilled, after_failed, Failure, Plain, after_told, after_all_told, after_whole_acked}
 use Rattle.st_receiver.specs.Streams.{with_receive_max, may_name}
 use Rattle.st_end.specs.State.{EndState}
-use Rattle.st_end.specs.declared.error.EndError.{EndError}
+use Rattle.st_streams.specs.declared.end_error.EndError.{EndError}
 use Rattle.st_end.specs.Calls.{Answer, own_number, with_stream, opening_as, connection_refusal}
-use Rattle.st_end.specs.declared.error.EndError.TheVariants.{NoStream, ConnectionFailed, Closed}
+use Rattle.st_streams.specs.declared.end_error.EndError.TheVariants.{NoStream, ConnectionFailed, Closed}
 use Rattle.st_end.specs.declared.flight.Open as flights
 use Rattle.st_end.specs.Answers.{raised, fits, failure_of, answered_by, after_outcome, pays, pays_by}
 use Rattle.st_end.specs.Receiving.{opened_too}

@@ -7,7 +7,7 @@ use Rattle.std.proofs.lemmas.Bool.Decides.{nat_tests}
 use Rattle.st_sender.specs.Sending as sender
 use Rattle.st_receiver.specs.Streams as streams
 use Rattle.st_receiver.specs.Reading.{Got}
-use Rattle.st_end.specs.declared.error.EndError.{EndError}
+use Rattle.st_streams.specs.declared.end_error.EndError.{EndError}
 use Rattle.st_end.specs.State.{EndState}
 use Rattle.st_end.specs.Calls.{Answer, open_stream, write, close, abort, offer, set_receive_max}
 use Rattle.st_end.specs.Reading as reading

@@ -18,9 +18,9 @@ use Rattle.st_sender.specs.Due.{IsDue, IsDueClose}
 use Rattle.st_sender.specs.Answering.{acked_data, acked_close, after_whole_acked, after_acked, after_all_acked, landed, after_fulfilled, after_failed, Plain, after_told, after_all_told}
 use Rattle.st_receiver.specs.Streams.{Receiving, Incoming, incoming_at, incoming_or, with_incoming, is_open, may_name, with_receive_max}
 use Rattle.st_end.specs.State.{EndState}
-use Rattle.st_end.specs.declared.error.EndError.{EndError}
+use Rattle.st_streams.specs.declared.end_error.EndError.{EndError}
 use Rattle.st_end.specs.Calls.{Answer, own_number, with_stream, opening_as, connection_refusal}
-use Rattle.st_end.specs.declared.error.EndError.TheVariants.{NoStream, ConnectionFailed, Closed}
+use Rattle.st_streams.specs.declared.end_error.EndError.TheVariants.{NoStream, ConnectionFailed, Closed}
 use Rattle.st_end.specs.declared.flight.Open as flights
 use Rattle.st_end.specs.Answers.{raised, fits, failure_of, answered_by, outcome_left}
 use Rattle.st_end.specs.Receiving.{opened_too, all_marked, prepare_in}

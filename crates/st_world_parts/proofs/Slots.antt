@@ -8,8 +8,8 @@ use Rattle.st_reassembly.specs.Run.{run}
 use Rattle.st_sender.specs.Sending.{Sending}
 use Rattle.st_receiver.specs.Streams.{incoming_at, is_open}
 use Rattle.st_receiver.specs.Reading.{Got, Bytes, Nothing, End, Aborted, is_read, got_bytes, got_by}
-use Rattle.st_end.specs.declared.error.EndError.{EndError}
-use Rattle.st_end.specs.declared.error.EndError.TheVariants.{NoMemory}
+use Rattle.st_streams.specs.declared.end_error.EndError.{EndError}
+use Rattle.st_streams.specs.declared.end_error.EndError.TheVariants.{NoMemory}
 use Rattle.st_end.specs.State.{EndState}
 use Rattle.st_sender.specs.Sending.{changed}
 use Rattle.st_sender.specs.Accepting.{after_write, after_clean, after_stream_abort, after_offer}

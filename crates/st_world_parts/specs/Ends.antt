@@ -5,7 +5,7 @@ use Rattle.std.specs.declared.option.Option.TheVariants.{None, Some}
 use Rattle.st_ilp.specs.Reading.{is_fulfill_text}
 use Rattle.st_sender.specs.Sending.{Flight}
 use Rattle.st_receiver.specs.Reading.{Got}
-use Rattle.st_end.specs.declared.error.EndError.{EndError}
+use Rattle.st_streams.specs.declared.end_error.EndError.{EndError}
 use Rattle.st_end.specs.declared.flight.Open as flights
 use Rattle.st_end.specs.State.{EndState}
 use Rattle.st_end.specs.Calls.{Answer, abort}

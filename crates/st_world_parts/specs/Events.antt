@@ -3,7 +3,7 @@ use Rattle.std.specs.Prelude.{◌≡◌, ℕ, ℤ, Bool, List, length, Result}
 use Rattle.std.specs.declared.option.Option.{Option}
 use Rattle.st_ilp.specs.Moments.{IsMoment}
 use Rattle.st_receiver.specs.Reading.{Got}
-use Rattle.st_end.specs.declared.error.EndError.{EndError}
+use Rattle.st_streams.specs.declared.end_error.EndError.{EndError}
 use Rattle.st_end.specs.Calls.{Answer}
 use Rattle.st_world_parts.specs.Sides.{Side}
 

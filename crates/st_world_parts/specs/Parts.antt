@@ -12,7 +12,7 @@ use Rattle.st_hop.specs.Tickets.{ticket_at}
 use Rattle.st_hop.specs.Arriving.{Answers, Forwards, arrived}
 use Rattle.st_hop.specs.Settling.{settled, is_booked}
 use Rattle.st_receiver.specs.Reading.{Got}
-use Rattle.st_end.specs.declared.error.EndError.{EndError}
+use Rattle.st_streams.specs.declared.end_error.EndError.{EndError}
 use Rattle.st_end.specs.declared.flight.Open as flights
 use Rattle.st_end.specs.State.{EndState}
 use Rattle.st_end.specs.Calls.{Answer}

@@ -17,7 +17,7 @@ use Rattle.st_sender.specs.Refusals.{accepted_of, all_accepted, close_refusal, f
 use Rattle.st_end.specs.State.{EndState}
 use Rattle.st_end.specs.Calls as calls
 use Rattle.st_end.specs.Calls.{close, connection_refusal, done, refusal, write, wrapped_too}
-use Rattle.st_end.specs.Errors.{wrapped}
+use Rattle.st_sender.specs.Errors.{wrapped}
 use Rattle.st_world_quiet.specs.Rounds.{IsRefilled, IsWritten, Refilled}
 use Rattle.st_world_quiet.specs.Exchanges.{IsModest}
 use Rattle.st_world_quiet.specs.Calls.{AreHeldBack, CanWrite, IsFed, IsHeldBack, closed_if, fitting, lengths, write_each, written_at, written_on}

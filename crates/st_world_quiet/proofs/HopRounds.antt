@@ -40,7 +40,7 @@ use Rattle.st_hop.specs.Lawful.{IsLawful}
 use Rattle.st_hop.specs.Tickets.{ticket_at}
 use Rattle.st_hop.specs.Arriving.{hop_time}
 use Rattle.st_hop.proofs.Sums.{same_test}
-use Rattle.st_end.specs.declared.error.EndError.{EndError}
+use Rattle.st_streams.specs.declared.end_error.EndError.{EndError}
 use Rattle.st_end.specs.State.{EndState}
 use Rattle.st_end.specs.declared.flight.Open as flights
 use Rattle.st_end.specs.Sending.{Goes, answer_time, prepare_for}

@@ -6,8 +6,8 @@ use Rattle.st_reassembly.specs.Held.{Held, nothing_held}
 use Rattle.st_reassembly.specs.Run.{run}
 use Rattle.st_receiver.specs.Streams.{Incoming, Receiving, fresh_incoming, incoming_at, incoming_or, is_open}
 use Rattle.st_receiver.specs.Reading.{Bytes, End, Got, Nothing, after_bytes, after_get, after_got, after_got_by, got, got_by, got_bytes}
-use Rattle.st_end.specs.declared.error.EndError.{EndError}
-use Rattle.st_end.specs.declared.error.EndError.TheVariants.{NoStream}
+use Rattle.st_streams.specs.declared.end_error.EndError.{EndError}
+use Rattle.st_streams.specs.declared.end_error.EndError.TheVariants.{NoStream}
 use Rattle.st_end.specs.State.{EndState}
 use Rattle.st_end.specs.Reading.{read}
 use Rattle.st_world_parts.specs.Sides.{Client, Server}

@@ -6,7 +6,7 @@ use Rattle.st_streams.proofs.SlotLemmas.{slot_apart, slot_cases, slot_here}
 use Rattle.st_sender.specs.Sending.{Outgoing, Sending, changed, changed_at, new_outgoing, outgoing_at, with_outgoing}
 use Rattle.st_sender.specs.Accepting.{after_clean, after_offer, after_write}
 use Rattle.st_sender.specs.Refusals.{close_refusal, offer_refusal, write_refusal}
-use Rattle.st_end.specs.declared.error.EndError.{EndError}
+use Rattle.st_streams.specs.declared.end_error.EndError.{EndError}
 use Rattle.st_end.specs.State.{EndState}
 use Rattle.st_end.specs.Calls.{connection_refusal, done, first_free, free_or, offer, open_stream, opened_unless, opening_as, own_number, own_numbers, refusal, with_stream, write}
 use Rattle.st_world_quiet.specs.Calls.{begun, closed_if, fitting, written_at, written_on}

@@ -4,8 +4,8 @@ use Rattle.st_sender.specs.Sending.{Outgoing, Sending, changed, outgoing_at}
 use Rattle.st_sender.specs.Accepting.{after_clean, after_offer, after_write}
 use Rattle.st_sender.specs.Refusals.{close_refusal, offer_refusal, write_refusal}
 use Rattle.st_receiver.specs.Streams.{may_name, with_receive_max}
-use Rattle.st_end.specs.declared.error.EndError.{EndError}
-use Rattle.st_end.specs.declared.error.EndError.TheVariants.{NoStream}
+use Rattle.st_streams.specs.declared.end_error.EndError.{EndError}
+use Rattle.st_streams.specs.declared.end_error.EndError.TheVariants.{NoStream}
 use Rattle.st_end.specs.State.{EndState}
 use Rattle.st_end.specs.Calls.{Answer, connection_refusal, done, offer, open_stream, opened_unless, opening_as, own_number, refusal, set_receive_max, write}
 use Rattle.st_world_quiet.specs.Calls.{allow_each, begin_each, begun, closed_if, fitting, written_at, written_on}

@@ -1,7 +1,7 @@
 -- What an event reported, and whether it succeeded.
 use Rattle.std.proofs.Common.{◌≡◌, ℕ, Bool, true, false, List, [], ◌∷◌, refl, sym, ap, subst, ◌∙◌, ℤ, inl, inr, Option, None, Some, Result, Ok, Err}
 use Rattle.std.specs.Prelude.{MatchBool}
-use Rattle.st_end.specs.declared.error.EndError.{EndError}
+use Rattle.st_streams.specs.declared.end_error.EndError.{EndError}
 use Rattle.st_world_parts.specs.Sides.{Client}
 use Rattle.st_world_parts.specs.State.{World}
 use Rattle.st_world_parts.specs.Events.{Event, Opened, Send, Told}

@@ -11,8 +11,8 @@ use Rattle.st_receiver.specs.Streams.{Receiving, incoming_at, is_open}
 use Rattle.st_receiver.specs.Reading.{Got, after_got, got}
 use Rattle.st_receiver.specs.Judged.{effect}
 use Rattle.st_receiver.specs.Limits.{limits, reply_frames}
-use Rattle.st_end.specs.declared.error.EndError.{EndError}
-use Rattle.st_end.specs.declared.error.EndError.TheVariants.{NoStream}
+use Rattle.st_streams.specs.declared.end_error.EndError.{EndError}
+use Rattle.st_streams.specs.declared.end_error.EndError.TheVariants.{NoStream}
 use Rattle.st_end.specs.State.{EndState}
 use Rattle.st_world_quiet.specs.Quiet.{IsQuiet}
 use Rattle.st_world_quiet.specs.Rounds.{IsWritten, once_fulfilled}

@@ -6,8 +6,8 @@ use Rattle.st_sender.specs.Accepting.{after_clean, after_write}
 use Rattle.st_sender.specs.Refusals.{close_refusal, write_refusal}
 use Rattle.st_receiver.specs.Streams.{incoming_at, is_open}
 use Rattle.st_receiver.specs.Reading.{Got, after_got, got}
-use Rattle.st_end.specs.declared.error.EndError.{EndError}
-use Rattle.st_end.specs.declared.error.EndError.TheVariants.{NoStream}
+use Rattle.st_streams.specs.declared.end_error.EndError.{EndError}
+use Rattle.st_streams.specs.declared.end_error.EndError.TheVariants.{NoStream}
 use Rattle.st_end.specs.State.{EndState}
 use Rattle.st_end.specs.Calls.{Answer, close, done, has_stream, refusal, refusal_at, write}
 use Rattle.st_end.specs.Reading.{read}

@@ -12,9 +12,9 @@ use Rattle.st_sender.specs.Refusals.{all_accepted, full, is_closed, no_more}
 use Rattle.st_sender.specs.Refusals as sender
 use Rattle.st_receiver.specs.Judged.{effect}
 use Rattle.st_receiver.specs.Limits.{reply_frames}
-use Rattle.st_end.specs.declared.error.EndError.{EndError}
+use Rattle.st_streams.specs.declared.end_error.EndError.{EndError}
 use Rattle.st_end.specs.declared.flight.Open as flights
-use Rattle.st_end.specs.Errors.{wrapped}
+use Rattle.st_sender.specs.Errors.{wrapped}
 use Rattle.st_end.specs.State.{EndState}
 use Rattle.st_end.specs.Calls.{connection_refusal, done, refusal_at, wrapped_too, write}
 use Rattle.st_end.specs.Sending.{Goes}

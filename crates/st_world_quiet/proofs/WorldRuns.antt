@@ -7,7 +7,7 @@ use Rattle.st_keys.specs.Keys.{keys_of, DerivedKeys}
 use Rattle.st_sender.specs.Sending.{Config, Outgoing, Sending, new_outgoing, outgoing_at, changed, with_outgoing}
 use Rattle.st_receiver.specs.Streams.{incoming_at}
 use Rattle.st_receiver.specs.Limits.{limits}
-use Rattle.st_end.specs.declared.error.EndError.{EndError}
+use Rattle.st_streams.specs.declared.end_error.EndError.{EndError}
 use Rattle.st_end.specs.declared.role.Role.TheVariants as roles
 use Rattle.st_end.specs.State.{EndState, new_end}
 use Rattle.st_end.specs.Calls.{offer, open_stream, set_receive_max, connection_refusal, opened_unless, opening_as, own_number, refusal}

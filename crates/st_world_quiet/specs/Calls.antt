@@ -4,7 +4,7 @@ use Rattle.std.specs.declared.option.Option.{Option}
 use Rattle.std.specs.declared.option.Option.TheVariants.{None, Some}
 use Rattle.st_oer.specs.Ratios.{ratio}
 use Rattle.st_sender.specs.Sending.{Config, Outgoing, Sending, outgoing_at}
-use Rattle.st_end.specs.declared.error.EndError.{EndError}
+use Rattle.st_streams.specs.declared.end_error.EndError.{EndError}
 use Rattle.st_end.specs.declared.role.Role.{Role}
 use Rattle.st_end.specs.declared.role.Role.TheVariants.{Client, Server}
 use Rattle.st_end.specs.State.{EndState}

@@ -1,9 +1,9 @@
-use Rattle.std.proofs.Common.{◌≡◌, List, ℕ, subst}
+use Rattle.std.proofs.Common.{List, ℕ, subst}
 use Rattle.std.specs.Io.KnownBytes.{Appends}
 use Rattle.std.proofs.lemmas.Result.{on_ok_weaker}
 use Rattle.st_devices.specs.Tallies.{device_of}
-use Rattle.ilpstream_main.proofs.Ledgers.{ends_printed, ends_refused}
-use Rattle.ilpstream_main.proofs.ledger.ledger.Goals as goal
+use Rattle.ilpstream_net.proofs.Ledgers.{ends_printed, ends_refused}
+use Rattle.ilpstream_net.proofs.ledger.run_ledger.Goals as goal
 
 pub returns-in_err-text-in-Ok-clause-ends : goal.returns-in_err-text-in-Ok-clause-ends
 returns-in_err-text-in-Ok-clause-ends g c =

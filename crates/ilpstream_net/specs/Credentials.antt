@@ -9,7 +9,7 @@ use Rattle.ilpstream_settings.specs.declared.source.Secret.{Secret}
 use Rattle.ilpstream_settings.specs.declared.source.Secret.TheVariants as secret
 use Rattle.ilpstream_settings.specs.declared.source.Token.{Token}
 use Rattle.ilpstream_settings.specs.declared.source.Token.TheVariants as token
-use Rattle.ilpstream_main.specs.declared.credentials.Credentials.{Credentials}
+use Rattle.ilpstream_net.specs.declared.credentials.Credentials.{Credentials}
 use Rattle.ilpstream_net.specs.declared.error.RunError.{RunError}
 use Rattle.ilpstream_net.specs.declared.error.RunError.TheVariants as run
 use Rattle.ilpstream_net.specs.Input.{FailsToRead}

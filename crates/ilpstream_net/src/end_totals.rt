@@ -3,15 +3,15 @@
 ghost use Rattle.std.specs.Prelude.{◌≡◌, IfErr, IfOk, IsNone, IsSome, OnOk, string_bytes};
 ghost use Rattle.std.specs.Io.KnownBytes.{Appends};
 ghost use Rattle.st_devices.specs.Tallies.{device_of};
-ghost use Rattle.ilpstream_ends.specs.Outcomes.{no_totals};
 ghost use Rattle.ilpstream_net.specs.declared.error.RunError.TheVariants.{BadOption};
-ghost use Rattle.ilpstream_main.specs.Totals as spec;
-ghost use Rattle.ilpstream_main.specs.Transfers.{IsToldIn};
+ghost use Rattle.ilpstream_net.specs.EndTotals as spec;
+ghost use Rattle.ilpstream_net.specs.EndTotals.{IsToldIn};
 
-use ilpstream_net::{Obstacle, RunError, Step};
+use crate::error::RunError;
+use crate::obstacle::{Obstacle, Step};
 use ilpstream_output::{Fault, TURNS, put};
 use st_devices::CountWrite;
-use st_end::Totals;
+use st_streams::EndTotals;
 use std::alloc::{AllocError, Global};
 use std::fs;
 use std::fs::{File, Files};
@@ -39,24 +39,12 @@ pub(crate) fn totals_file<'a, N: Files<File = File>>(
     }
 }
 
-/// The totals of an end that has done nothing.
-pub(crate) fn nothing_yet() -> Totals
-    ensures { result ≡ no_totals }
-{
-    Totals {
-        accepted: 0,
-        delivered: 0,
-        credited: 0,
-        paid: 0,
-    }
-}
-
 /// The lines that report the totals of an end.
 #[tactic(auto, using(crate::proofs::Pieces::pieces))]
-fn totals_text(alloc: Global, totals: &Totals) -> Result<String, AllocError>
+fn totals_text(alloc: Global, totals: &EndTotals) -> Result<String, AllocError>
     ensures { IfOk result (λ text. string_bytes text ≡ spec.totals_text totals.now) }
 {
-    let Totals {
+    let EndTotals {
         accepted,
         delivered,
         credited,
@@ -72,7 +60,7 @@ fn totals_text(alloc: Global, totals: &Totals) -> Result<String, AllocError>
 fn put_totals<W: Write>(
     alloc: Global,
     file: &mut CountWrite<W>,
-    totals: &Totals,
+    totals: &EndTotals,
 ) -> Result<(), Fault>
     ensures { OnOk result (Appends (W.contents (device_of file.old)) (W.contents (device_of file.new)) (spec.totals_text totals.now)) }
 {
@@ -85,7 +73,7 @@ fn put_totals<W: Write>(
 pub(crate) fn tell_totals<W: Write>(
     alloc: Global,
     file: &mut Option<CountWrite<W>>,
-    totals: &Totals,
+    totals: &EndTotals,
 ) -> Result<(), Fault>
     ensures { IsToldIn W.contents file.old file.new totals.now result }
 {
@@ -101,7 +89,7 @@ pub(crate) fn put_totals_now<N: Files<File = File>>(
     rt: &N,
     alloc: Global,
     name: Option<&str>,
-    totals: &Totals,
+    totals: &EndTotals,
 ) {
     let Some(name) = name else {
         return;

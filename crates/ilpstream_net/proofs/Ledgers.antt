@@ -15,7 +15,7 @@ use Rattle.ilpstream_ledger.specs.declared.error.LedgerError.{LedgerError}
 use Rattle.ilpstream_ledger.specs.Names.{amounts_of}
 use Rattle.ilpstream_ledger.specs.Placing.{IsLate}
 use Rattle.ilpstream_ledger.specs.Settling.{IsOnce}
-use Rattle.ilpstream_main.specs.Ledger.{EndsLedger, FailsToWrite, IsPrinted, IsPrintedAs, IsPrintedOnce, PrintsLedger, once_text}
+use Rattle.ilpstream_net.specs.Ledger.{EndsLedger, FailsToWrite, IsPrinted, IsPrintedAs, IsPrintedOnce, PrintsLedger, once_text}
 use Rattle.ilpstream_net.specs.declared.error.RunError.{RunError}
 use Rattle.ilpstream_net.specs.declared.error.RunError.TheVariants as run
 

@@ -5,11 +5,13 @@ ghost use Rattle.st_devices.specs.Tallies.{device_of, tally_of};
 ghost use Rattle.st_http.specs.Texts as texts;
 ghost use Rattle.ilpstream_output.specs.declared.error.Fault.TheVariants.{NoMemory};
 ghost use Rattle.ilpstream_settings.specs.Sources.{IsSecret, IsToken};
-ghost use Rattle.ilpstream_main.specs.Credentials.{AreOf, ComesOfLine, HasSecret, HasToken, IsLawfulToken, WhyNotOpened};
-ghost use Rattle.ilpstream_main.specs.Credentials as spec;
+ghost use Rattle.ilpstream_net.specs.Credentials.{AreOf, ComesOfLine, HasSecret, HasToken, IsLawfulToken, WhyNotOpened};
+ghost use Rattle.ilpstream_net.specs.Credentials as spec;
 ghost use Rattle.ilpstream_net.specs.declared.error.RunError.TheVariants.{Fault as IsFault};
 
-use ilpstream_net::{Obstacle, RunError, Step, read_whole};
+use crate::error::RunError;
+use crate::input::read_whole;
+use crate::obstacle::{Obstacle, Step};
 use ilpstream_output::Fault;
 use ilpstream_settings::{Secret, Token, first_secret, first_token};
 use st_devices::CountRead;
@@ -22,11 +24,11 @@ const MOST: u64 = 4096;
 
 /// What an end shows and shares.
 #[derive(Drop)]
-pub(crate) struct Credentials {
+pub struct Credentials {
     /// The bearer token: 1 to 255 visible characters.
-    pub(crate) token: String,
+    pub token: String,
     /// The shared secret of the connection.
-    pub(crate) secret: [u8; 32],
+    pub secret: [u8; 32],
 }
 
 /// Why a file that could not be read gives nothing: the option that names it is bad, or memory was refused.

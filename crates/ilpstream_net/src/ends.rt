@@ -1,18 +1,21 @@
 //! How the commands `send` and `receive` begin and end.
 
 ghost use Rattle.std.specs.Prelude.{◌≡◌, ◌≢◌, Err, IfErr, IfOk, IsNone, IsSome};
-ghost use Rattle.ilpstream_main.specs.Credentials.{AreOf, IsLawfulToken, WhyNotOpened};
-ghost use Rattle.ilpstream_main.specs.Transfers.{EndsTold};
+ghost use Rattle.ilpstream_net.specs.Credentials.{AreOf, IsLawfulToken, WhyNotOpened};
+ghost use Rattle.ilpstream_net.specs.EndTotals.{EndsTold};
 ghost use Rattle.ilpstream_net.specs.declared.error.RunError.TheVariants.{BadOption};
 
 use crate::credentials::{Credentials, credentials_of};
-use crate::totals::{tell_totals, totals_file};
+use crate::end_totals::{tell_totals, totals_file};
+use crate::error::RunError;
+use crate::log::{journal, tell, tell_end, tell_run};
+use crate::obstacle::Obstacle;
+use crate::totals::ended_with;
 use ilpstream_log::{Event, Start};
-use ilpstream_net::{Obstacle, RunError, ended_with, journal, tell, tell_end, tell_run};
 use ilpstream_serving::LogFile;
 use ilpstream_settings::{Secret, Token};
 use st_devices::CountWrite;
-use st_end::Totals;
+use st_streams::EndTotals;
 use std::alloc::Global;
 use std::fs::{File, Files};
 use std::io::Write;
@@ -20,31 +23,31 @@ use std::time::Clock;
 
 /// What a command of one end was asked for, apart from its transfer.
 #[derive(Clone, Copy)]
-pub(crate) struct Asked<'a> {
-    pub(crate) token: Token<'a>,
-    pub(crate) secret: Secret<'a>,
+pub struct EndRequest<'a> {
+    pub token: Token<'a>,
+    pub secret: Secret<'a>,
     /// The name of the file for its totals, if there is one.
-    pub(crate) totals: Option<&'a str>,
+    pub totals: Option<&'a str>,
     /// The name of the file for its log, if there is one.
-    pub(crate) log: Option<&'a str>,
+    pub log: Option<&'a str>,
     /// The settings that the log begins with.
-    pub(crate) start: Start<'a>,
+    pub start: Start<'a>,
 }
 
 /// What such a command has before its transfer. Its totals are written to a `W`, if they are asked for.
 #[derive(Drop)]
-pub(crate) struct Begun<W> {
-    pub(crate) credentials: Credentials,
-    pub(crate) journal: Option<LogFile>,
-    pub(crate) totals: Option<CountWrite<W>>,
+pub struct Begun<W> {
+    pub credentials: Credentials,
+    pub journal: Option<LogFile>,
+    pub totals: Option<CountWrite<W>>,
 }
 
 /// Begins a command of one end: reads the files of its token and its secret, and opens those for events and totals. If one
 /// of them cannot be read or opened, `obstacle` names it, and nothing else is to be done.
-pub(crate) fn begin<'a, N: Files<File = File> + Clock>(
+pub fn begin_command<'a, N: Files<File = File> + Clock>(
     rt: &N,
     alloc: Global,
-    asked: Asked<'a>,
+    asked: EndRequest<'a>,
     obstacle: &mut Option<Obstacle<'a>>,
 ) -> Result<Begun<File>, RunError>
     requires { IsLawfulToken asked.token }
@@ -80,11 +83,11 @@ pub(crate) fn begin<'a, N: Files<File = File> + Clock>(
 
 /// Ends such a command: writes its totals, if they are asked for, and how it ended to its log, if it has one. Returns the
 /// result of the command.
-pub(crate) fn end<N: Clock, W: Write>(
+pub fn end_command<N: Clock, W: Write>(
     rt: &N,
     alloc: Global,
     begun: &mut Begun<W>,
-    totals: &Totals,
+    totals: &EndTotals,
     obstacle: &Option<Obstacle<'_>>,
     ended: Result<(), RunError>,
 ) -> Result<(), RunError>

@@ -3,13 +3,14 @@
 ghost use Rattle.std.specs.Prelude.{◌≡◌};
 ghost use Rattle.std.specs.Duration.{as_nanos};
 ghost use Rattle.std.specs.Time.{instant_nanos};
-ghost use Rattle.ilpstream_main.specs.Progress as spec;
+ghost use Rattle.ilpstream_net.specs.Progress as spec;
 
-use crate::totals::put_totals_now;
+use crate::end_totals::put_totals_now;
+use crate::log::{Log, tell_minute};
+use crate::terminal::{has_terminal, put_terminal};
 use ilpstream_log::{Blocked, Brief, Progress, shown};
-use ilpstream_net::{Log, has_terminal, put_terminal, tell_minute};
 use ilpstream_serving::Watch;
-use st_end::Totals;
+use st_streams::EndTotals;
 use std::alloc::Global;
 use std::fs;
 use std::fs::{File, Files};
@@ -32,7 +33,7 @@ const CLEARED: [u8; 4] = *b"\r\x1b[K";
 
 /// Which end of a connection a command runs.
 #[derive(Clone, Copy)]
-pub(crate) enum Side {
+pub enum Side {
     /// It sends an input of this length, if that is known.
     Sends(Option<u64>),
     /// It receives.
@@ -72,7 +73,7 @@ struct Times {
 
 /// Reports the progress of `send` or `receive`.
 #[derive(Drop)]
-pub(crate) struct Teller<'a, N> {
+pub struct Teller<'a, N> {
     rt: &'a N,
     alloc: Global,
     log: Log<'a>,
@@ -83,7 +84,7 @@ pub(crate) struct Teller<'a, N> {
 }
 
 /// The bytes of an end with these totals.
-fn bytes_of(side: Side, totals: &Totals) -> u64
+fn bytes_of(side: Side, totals: &EndTotals) -> u64
     ensures { result ≡ spec.bytes_of side totals.now }
 {
     match side {
@@ -109,7 +110,7 @@ fn moved(span: Span, here: Mark) -> Span
 /// mark.
 fn progress_of(
     side: Side,
-    totals: &Totals,
+    totals: &EndTotals,
     from: Mark,
     millis: u64,
     waits: Option<Blocked>,
@@ -148,7 +149,7 @@ fn is_due(now: Instant, before: Instant, period: Duration) -> bool
 }
 
 /// How many bytes standard input has, if it is a regular file.
-pub(crate) fn input_length<N: Files<File = File>>(rt: &N) -> Option<u64> {
+pub fn input_length<N: Files<File = File>>(rt: &N) -> Option<u64> {
     match fs::metadata(rt, "/dev/stdin") {
         Ok(found) if found.is_file() => Some(found.len()),
         _ => None,
@@ -158,7 +159,7 @@ pub(crate) fn input_length<N: Files<File = File>>(rt: &N) -> Option<u64> {
 impl<'a, N: Clock> Teller<'a, N> {
     /// The reports of a transfer that begins now: on the terminal, if standard error is one, and in the log, if there is
     /// one.
-    pub(crate) fn new(rt: &'a N, alloc: Global, log: Log<'a>, side: Side) -> Teller<'a, N> {
+    pub fn new(rt: &'a N, alloc: Global, log: Log<'a>, side: Side) -> Teller<'a, N> {
         let times = match Instant::now(rt) {
             Ok(begun) => Some(Times {
                 begun,
@@ -184,7 +185,7 @@ impl<'a, N: Clock> Teller<'a, N> {
     /// Writes the line, this long after the start. Returns the marks then.
     fn show(
         &self,
-        totals: &Totals,
+        totals: &EndTotals,
         span: Span,
         since: Duration,
         waits: Option<Blocked>,
@@ -203,7 +204,7 @@ impl<'a, N: Clock> Teller<'a, N> {
 
 impl<N: Files<File = File> + Clock> Teller<'_, N> {
     /// Writes the totals now: to the file of this name, if one was asked for, and to the log, if there is one.
-    pub(crate) fn put_now(&self, name: Option<&str>, totals: &Totals) {
+    pub(crate) fn put_now(&self, name: Option<&str>, totals: &EndTotals) {
         put_totals_now(self.rt, self.alloc, name, totals);
         tell_minute(self.rt, self.log, totals);
     }
@@ -223,7 +224,7 @@ impl<N: Clock> Watch for Teller<'_, N> {
         None
     }
 
-    fn look(&mut self, totals: &Totals, waits: Option<Blocked>, last: Option<Brief>) {
+    fn look(&mut self, totals: &EndTotals, waits: Option<Blocked>, last: Option<Brief>) {
         if self.period().is_none() {
             return;
         }

@@ -1,10 +1,9 @@
 //! Why an end refuses a call.
 
 ghost use Rattle.std.specs.Prelude.{◌≡◌};
-ghost use Rattle.st_end.specs.Errors as errors;
-ghost use Rattle.st_end.specs.declared.error.EndError.TheVariants.{NoMemory};
+ghost use Rattle.st_streams.specs.Errors as errors;
+ghost use Rattle.st_streams.specs.declared.end_error.EndError.TheVariants.{NoMemory};
 
-use st_sender::OutboxError;
 use std::alloc::{AllocError, AllocFailed};
 use thiserror::Error;
 
@@ -51,20 +50,6 @@ impl EndError {
         ensures { result ≡ errors.inner self.now }
     {
         None
-    }
-}
-
-impl From<OutboxError> for EndError {
-    ghost from_gives = { λ fault e. e ≡ errors.wrapped fault };
-
-    fn from(fault: OutboxError) -> EndError {
-        match fault {
-            OutboxError::NoStream => EndError::NoStream,
-            OutboxError::Closed => EndError::Closed,
-            OutboxError::Full => EndError::Full,
-            OutboxError::AmountTooLarge => EndError::AmountTooLarge,
-            OutboxError::NoMemory => EndError::NoMemory,
-        }
     }
 }
 

@@ -2,11 +2,11 @@
 
 ghost use Rattle.std.specs.Prelude.{◌≡◌};
 
+use crate::control::{Asked, Control};
 use crate::progress::Teller;
 use ilpstream_log::{Blocked, Brief};
-use ilpstream_net::{Asked, Control};
 use ilpstream_serving::Watch;
-use st_end::Totals;
+use st_streams::EndTotals;
 use std::fs::{File, Files};
 use std::time::{Clock, Duration};
 
@@ -18,9 +18,9 @@ const LOOK_MILLIS: u64 = 200;
 
 /// Reports the progress of a receiver, and reads what it is asked while it runs.
 #[derive(Drop)]
-pub(crate) struct Directed<'a, N> {
+pub struct Directed<'a, N> {
     teller: Teller<'a, N>,
-    pub(crate) control: Option<Control<'a, N>>,
+    pub control: Option<Control<'a, N>>,
     /// The name of the file for its totals, if there is one.
     totals: Option<&'a str>,
     is_stopped: bool,
@@ -28,7 +28,7 @@ pub(crate) struct Directed<'a, N> {
 
 impl<'a, N: Files<File = File> + Clock> Directed<'a, N> {
     /// The reports of this teller, and what is asked by this pipe, if there is one.
-    pub(crate) fn new(
+    pub fn new(
         teller: Teller<'a, N>,
         control: Option<Control<'a, N>>,
         totals: Option<&'a str>,
@@ -44,7 +44,7 @@ impl<'a, N: Files<File = File> + Clock> Directed<'a, N> {
     }
 
     /// Does what is asked.
-    fn obey(&mut self, totals: &Totals) {
+    fn obey(&mut self, totals: &EndTotals) {
         for _ in 0..MOST_LINES {
             let Some(control) = &mut self.control else {
                 return;
@@ -69,7 +69,7 @@ impl<N: Files<File = File> + Clock> Watch for Directed<'_, N> {
         Some(period.map_or(look, |period| period.min(look)))
     }
 
-    fn look(&mut self, totals: &Totals, waits: Option<Blocked>, last: Option<Brief>) {
+    fn look(&mut self, totals: &EndTotals, waits: Option<Blocked>, last: Option<Brief>) {
         self.teller.look(totals, waits, last);
         self.obey(totals);
     }

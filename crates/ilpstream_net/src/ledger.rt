@@ -5,14 +5,14 @@ ghost use Rattle.std.specs.Io.KnownBytes.{Appends};
 ghost use Rattle.st_devices.specs.Tallies.{device_of, tally_of};
 ghost use Rattle.ilpstream_output.specs.declared.error.Fault.{Fault};
 ghost use Rattle.ilpstream_ledger.specs.Placing.{IsLate};
-ghost use Rattle.ilpstream_main.specs.Ledger.{EndsLedger, FailsToWrite, IsPrinted, IsPrintedAlone, IsPrintedOnce, PrintsFound};
-ghost use Rattle.ilpstream_main.specs.Ledger as specs;
+ghost use Rattle.ilpstream_net.specs.Ledger.{EndsLedger, FailsToWrite, IsPrinted, IsPrintedAlone, IsPrintedOnce, PrintsFound};
+ghost use Rattle.ilpstream_net.specs.Ledger as specs;
 ghost use Rattle.ilpstream_net.specs.declared.error.RunError.TheVariants as run;
 
+use crate::error::RunError;
 use ilpstream_ledger::{
     LedgerError, OpensBooks, account_text, ledger_text, repeated_text, settle, settle_once,
 };
-use ilpstream_net::RunError;
 use ilpstream_output::{TURNS, put};
 use ilpstream_serving::RuntimeClock;
 use ilpstream_settings::{LedgerSettings, Payment};
@@ -147,7 +147,7 @@ fn print<W: Write>(writer: &mut CountWrite<W>, text: &[u8]) -> Result<(), RunErr
 /// are made.
 ///
 /// Nothing is printed if the books refuse.
-pub(crate) fn ledger<W: Write, C: std::time::Clock, O: OpensBooks>(
+pub fn run_ledger<W: Write, C: std::time::Clock, O: OpensBooks>(
     rt: &C,
     opener: &O,
     alloc: Global,
