@@ -29,6 +29,8 @@ fi
 
 # The libraries that tests/bindings.py built here before: `rt ci` refuses a repository with a link, and that test builds them anew.
 rm -rf bind/out
+# And those of an earlier `rt ci`: at its end it puts them back in place of those that it made, which the tests below need.
+rm -rf crates/*/out/rlib
 
 tests/times.py $$ >"$room/times" &
 times=$!

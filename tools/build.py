@@ -20,8 +20,8 @@ from crates import BUILT, TOP, kit, read_crates, with_below, words
 
 PROGRAM = "ilpstream"
 # The processor's seconds that each crate took from nothing with one job, in a first run of a39b886e on 2026-12-01. Those of ilpstream_main,
-# which was two crates, and of ilpstream are changed by what docs/GATE.md says of the type of the books, and those of ilpstream_net and
-# ilpstream_main by 41 functions that moved from the one to the other. Crates that are not here take OTHER.
+# which was two crates, and of ilpstream are changed by what docs/GATE.md says of the type of the books, and those of ilpstream_main and
+# ilpstream_net by 41 functions that moved from the first to the second. Crates that are not here take OTHER.
 WEIGHTS = {
     "st_hop_books": 476, "ilpstream_net": 410, "ilpstream_ends": 356, "st_sender": 308, "st_hub": 273, "st_world": 260,
     "ilpstream_words": 250, "st_end": 229, "ilpstream_settings": 200, "ilpstream_connector": 200, "st_world_parts": 189,
